@@ -1,0 +1,68 @@
+-- Instructions: their kinds, their static successors, and what a table may name.
+use Rattle.std.specs.Prelude.{ℕ, ◌^◌, ◌<◌, Bool, true, false, List, [], ◌∷◌, Option, Some, None}
+use Rattle.rz_num.specs.declared.Width.{Width}
+use Rattle.rz_num.specs.declared.Width.TheVariants.{W8, W16, W32, W64}
+use Rattle.rz_machine.specs.declared.insn.Reg.TheVariants.{R}
+use Rattle.rz_machine.specs.declared.insn.Place.TheVariants as place
+use Rattle.rz_machine.specs.declared.insn.Operand.TheVariants.{Imm}
+use Rattle.rz_machine.specs.declared.insn.Insn.{Insn}
+use Rattle.rz_machine.specs.declared.insn.Insn.TheVariants as insn
+use Rattle.rz_machine.specs.declared.insn.Kind.{Kind}
+use Rattle.rz_machine.specs.declared.insn.Kind.TheVariants as kind
+use Rattle.rz_machine.specs.declared.decode.Decoded.{Decoded}
+use Rattle.rz_machine.specs.declared.decode.Decoded.TheVariants as decoded
+
+-- how many numbers a width has
+abbrev pub size : Width → ℕ
+size W8 = 2 ^ 8
+size W16 = 2 ^ 16
+size W32 = 2 ^ 32
+size W64 = 2 ^ 64
+
+abbrev pub kind_of : Insn → Kind
+kind_of (insn.Mov w dst src) = kind.Plain
+kind_of (insn.Jmp target) = kind.Jmp
+kind_of insn.Syscall = kind.Syscall
+kind_of insn.Ud2 = kind.Halt
+
+-- the address that a direct transfer names
+abbrev pub target_of : Insn → Option ℕ
+target_of (insn.Mov w dst src) = None
+target_of (insn.Jmp target) = Some target
+target_of insn.Syscall = None
+target_of insn.Ud2 = None
+
+-- a transfer whose target isn't in the instruction
+abbrev pub is_site : Kind → Bool
+is_site kind.CallInd = true
+is_site kind.JmpInd = true
+is_site kind.Ret = true
+is_site _ = false
+
+abbrev option_list : Option ℕ → List ℕ
+option_list None = []
+option_list (Some a) = a ∷ []
+
+abbrev direct_by : Kind → Option ℕ → ℕ → List ℕ
+direct_by kind.Plain target next = next ∷ []
+direct_by kind.Syscall target next = next ∷ []
+direct_by kind.Jcc target next = next ∷ option_list target
+direct_by kind.Jrcxz target next = next ∷ option_list target
+direct_by kind.Jmp target next = option_list target
+direct_by kind.Call target next = option_list target
+direct_by _ target next = []
+
+-- the addresses that an instruction before `next` may lead to, as far as it says itself
+abbrev pub direct : Insn → ℕ → List ℕ
+direct x next = direct_by (kind_of x) (target_of x) next
+
+-- a table's decoder: what the bytes at an address spell
+abbrev pub Decoder : Type 0
+Decoder = List ℕ → ℕ → Decoded
+
+-- register numbers are below 16, and numbers and targets fit
+abbrev pub IsNamed : Insn → Type 0
+IsNamed (insn.Mov w (place.Reg (R dst)) (Imm imm)) = (dst < 16) × (imm < size w)
+IsNamed (insn.Jmp target) = target < 2 ^ 64
+IsNamed insn.Syscall = Unit {0}
+IsNamed insn.Ud2 = Unit {0}

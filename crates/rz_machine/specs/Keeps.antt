@@ -1,0 +1,67 @@
+-- What it means that a new file keeps an old one's runs, up to the first edge that isn't kept.
+use Rattle.std.specs.Prelude.{◌≡◌, ℕ, suc, ◌+◌, ◌*◌, ◌<◌, ◌≤◌, ◌⊎◌, Bool, true, false, ◌&&◌, if◌then◌else◌, ◌==◌, List, [], ◌∷◌, Option, Some, None}
+use Rattle.std.specs.List.{list_any}
+use Rattle.rz_machine.specs.declared.machine.End.{End}
+use Rattle.rz_machine.specs.declared.machine.End.TheVariants as end
+use Rattle.rz_machine.specs.declared.machine.Machine.{Machine}
+use Rattle.rz_machine.specs.declared.sys.Input.{Input}
+use Rattle.rz_machine.specs.declared.trace.Record.{Record}
+use Rattle.rz_machine.specs.Memory.{Range, IsInside, Alike}
+use Rattle.rz_machine.specs.Insn.{Decoder}
+use Rattle.rz_machine.specs.Elf.{image_of}
+use Rattle.rz_machine.specs.State.{step, after}
+use Rattle.rz_machine.specs.Start.{IsValid, start}
+use Rattle.rz_machine.specs.Touches.{RunClear}
+use Rattle.rz_machine.specs.Added.{Layout, layout_of}
+
+-- equal registers, flags, input, replies, events and breaks, and alike memory outside the range;
+-- RIP and the permission to execute are aside
+pub record Same (r : Range) (s t : Machine) : Type 0 where
+  pub regs : s.cpu.regs ≡ t.cpu.regs
+  pub flags : s.cpu.flags ≡ t.cpu.flags
+  pub world : s.world ≡ t.world
+  pub mem : Alike r s.mem t.mem
+
+abbrev pub Edges : Type 0
+Edges = List (ℕ × ℕ)
+
+abbrev pub has_edge : Edges → ℕ → ℕ → Bool
+has_edge edges a b = list_any (λ e. e.0 == a && e.1 == b) edges
+
+-- the next step is that of an instruction, doesn't end the run, and takes an edge that isn't kept
+pub record Leaves (dec : Decoder) (edges : Edges) (s : Machine) : Type 0 where
+  pub runs : (step dec s).end ≡ None
+  pub left : has_edge edges s.cpu.rip (step dec s).cpu.rip ≡ false
+
+-- step j + 1 is the cut: the first that leaves the kept edges
+pub record IsCut (dec : Decoder) (edges : Edges) (s : Machine) (j : ℕ) : Type 0 where
+  pub leaves : Leaves dec edges (after dec j s)
+  pub first : (i : ℕ) → i < j → Leaves dec edges (after dec i s) → ⊥
+
+-- none of the first n steps is the cut
+abbrev pub NoCut : Decoder → Edges → Machine → ℕ → Type 0
+NoCut dec edges s n = (j : ℕ) → j < n → IsCut dec edges s j → ⊥
+
+-- equal ends; or both Illegal, and the new one's address in the code part
+abbrev pub AlikeEnds : Range → Option End → Option End → Type 0
+AlikeEnds code (Some (end.Illegal a)) (Some (end.Illegal b)) = (a ≡ b) ⊎ IsInside code b
+AlikeEnds code e f = e ≡ f
+
+-- the new file's run from w keeps the old file's run from x
+pub record KeepsRun (dec : Decoder) (edges : Edges) (lay : Layout) (x w : Machine) : Type 0 where
+  -- before the cut and the end, the new run comes to the same state, with no fewer steps
+  pub goes_on : (n : ℕ) → RunClear lay.added dec x n → NoCut dec edges x n → (after dec n x).end ≡ None
+      → (m : ℕ) × (n ≤ m) × ((after dec m w).end ≡ None) × Same lay.added (after dec n x) (after dec m w)
+  -- where the old run ended, the new one ends alike
+  pub ends : (n : ℕ) (why : End) → RunClear lay.added dec x n → NoCut dec edges x n → (after dec n x).end ≡ Some why
+      → (m : ℕ) × (why' : End) × ((after dec m w).end ≡ Some why') × AlikeEnds lay.code (Some why) (Some why') × Same lay.added (after dec n x) (after dec m w)
+  -- at the cut, the new run comes to the stub of the cut's source, and ends there at its next step
+  pub cut : (j : ℕ) → RunClear lay.added dec x (suc j) → IsCut dec edges x j
+      → (m : ℕ) × (j < m) × ((after dec m w).end ≡ None) × Same lay.added (after dec (suc j) x) (after dec m w)
+      × ((after dec m w).cpu.rip ≡ lay.stub (after dec j x).cpu.rip)
+      × ((step dec (after dec m w)).end ≡ Some (end.Illegal (after dec m w).cpu.rip))
+
+-- the file w keeps each run of the file x, for the kept nodes and edges
+abbrev pub Keeps : Decoder → List ℕ → List ℕ → Record → Type 0
+Keeps dec x w kept =
+    (input : Input) → IsValid input → KeepsRun dec kept.edges (layout_of dec (image_of x) kept) (start (image_of x) input) (start (image_of w) input)

@@ -1,0 +1,17 @@
+pub mod Memory
+pub mod Elf
+pub mod Insn
+pub mod Effect
+pub mod Answer
+pub mod State
+pub mod Touches
+pub mod Start
+pub mod Begun
+pub mod Nodes
+pub mod First
+pub mod Added
+pub mod Keeps
+pub mod WrittenFile
+pub mod Thin
+pub mod Rewritable
+pub mod Fragments

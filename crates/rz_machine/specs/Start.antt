@@ -1,0 +1,89 @@
+-- The opening state of an accepted file on a valid input
+-- (after the System V ABI for x86-64, section 3.4.1, "Initial Stack and Register State", without environment or auxiliary entries).
+use Rattle.std.specs.Prelude.{◌≡◌, ◌≢◌, ℕ, ◌+◌, ◌-◌, ◌*◌, ◌%◌, ◌^◌, ◌<◌, ◌≤◌, true, false, List, [], ◌∷◌, ◌++◌, length, set, replicate, flat_map, None}
+use Rattle.std.specs.List.{AllByRecursion}
+use Rattle.byteorder.specs.Endian.{little_bytes}
+use Rattle.rz_machine.specs.declared.flags.Flags.{Flags}
+use Rattle.rz_machine.specs.declared.machine.Machine.{Machine}
+use Rattle.rz_machine.specs.declared.memory.Perm.{Perm}
+use Rattle.rz_machine.specs.declared.memory.Region.{Region}
+use Rattle.rz_machine.specs.declared.sys.Input.{Input}
+use Rattle.rz_machine.specs.declared.sys.Reply.{Reply}
+use Rattle.rz_machine.specs.declared.sys.Reply.TheVariants.{Full, AtMost, Error}
+use Rattle.rz_machine.specs.Memory.{zeros}
+use Rattle.rz_machine.specs.Elf.{Image}
+
+-- the argument strings, each with its zero byte
+abbrev pub strings : List (List ℕ) → List ℕ
+strings args = flat_map (λ arg. arg ++ 0 ∷ []) args
+
+abbrev pub IsValidReply : Reply → Type 0
+IsValidReply Full = Unit {0}
+IsValidReply (AtMost k) = 0 < k
+IsValidReply (Error e) = (0 < e) × (e ≤ 4095)
+
+-- the inputs that a run may be given
+pub record IsValid (input : Input) : Type 0 where
+  pub no_zeros : AllByRecursion (λ arg. AllByRecursion (λ b. (0 < b) × (b < 256)) arg) input.args
+  pub few : length (strings input.args) ≤ 65536
+  pub replies : AllByRecursion IsValidReply input.replies
+  pub stdin : AllByRecursion (λ b. b < 256) input.stdin
+
+-- no arguments, no input and no replies
+abbrev pub IsEmptyInput : Input → Type 0
+IsEmptyInput input = (input.args ≡ []) × (input.stdin ≡ []) × (input.replies ≡ [])
+
+abbrev pub empty_input : Input
+empty_input = record { args = []; stdin = []; replies = [] }
+
+abbrev pub stack_base : ℕ
+stack_base = 0x7fffffeff000
+
+abbrev pub stack_top : ℕ
+stack_top = 0x7ffffffff000
+
+-- where the strings begin: they end at the top of the stack
+abbrev pub strings_at : List (List ℕ) → ℕ
+strings_at args = stack_top - length (strings args)
+
+abbrev pub string_addresses : ℕ → List (List ℕ) → List ℕ
+string_addresses at [] = []
+string_addresses at (arg ∷ args) = at ∷ string_addresses (at + length arg + 1) args
+
+-- the words at RSP: the number of arguments, their addresses, and the ends of three lists
+abbrev pub stack_words : List (List ℕ) → List ℕ
+stack_words args = length args ∷ (string_addresses (strings_at args) args ++ 0 ∷ 0 ∷ 0 ∷ 0 ∷ [])
+
+unfoldable pub first_rsp : List (List ℕ) → ℕ
+first_rsp args = let low = strings_at args - 8 * (length args + 5) in low - low % 16
+
+unfoldable pub stack_bytes : List (List ℕ) → List ℕ
+stack_bytes args =
+    let words = flat_map (little_bytes 8) (stack_words args) in
+    zeros (first_rsp args - stack_base) ++ (words ++ (zeros (strings_at args - (first_rsp args + length words)) ++ strings args))
+
+abbrev pub read_write : Perm
+read_write = record { read = true; write = true; execute = false }
+
+abbrev pub stack_region : Input → Region
+stack_region input = record { base = stack_base; bytes = stack_bytes input.args; opened = 2 ^ 20; perm = read_write }
+
+-- 16 MiB from the first break on, with none open
+abbrev pub heap_region : ℕ → Region
+heap_region first_break = record { base = first_break; bytes = zeros 16777216; opened = 0; perm = read_write }
+
+abbrev pub no_flags : Flags
+no_flags = record { cf = false; pf = false; af = false; zf = false; sf = false; df = false; of = false }
+
+-- all zero but for RSP
+unfoldable pub first_regs : Input → List ℕ
+first_regs input = set (replicate 16 0) 4 (first_rsp input.args)
+
+abbrev pub start : Image → Input → Machine
+start image input =
+    record {
+      cpu = record { regs = first_regs input; rip = image.entry; flags = no_flags };
+      mem = image.loads ++ heap_region image.first_break ∷ stack_region input ∷ [];
+      world = record { stdin = input.stdin; replies = input.replies; events = []; first_break = image.first_break; brk = image.first_break };
+      end = None;
+    }
