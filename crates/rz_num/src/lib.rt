@@ -16,3 +16,6 @@ pub use page::page_up;
 pub use text_list::Text;
 pub use want::OutOfMemory;
 pub use width::{Width, mask, sign_extend};
+
+#[cfg(test)]
+mod tests;
