@@ -4,7 +4,8 @@ use Rattle.byteorder.specs.Endian.{little_bytes}
 use Rattle.rz_machine.specs.declared.memory.Region.{Region}
 use Rattle.rz_machine.specs.declared.trace.Record.{Record}
 use Rattle.rz_machine.specs.Memory.{Regions, Range}
-use Rattle.rz_machine.specs.Elf.{Image, page_up}
+use Rattle.rz_num.specs.Page.{page_up}
+use Rattle.rz_machine.specs.Elf.{Image}
 use Rattle.rz_machine.specs.Insn.{Decoder}
 use Rattle.rz_machine.specs.Nodes.{is_site_at}
 

@@ -2,8 +2,9 @@
 -- (Intel SDM, volume 2, "MOV", "JMP", "UD2"; volume 1, section 3.4.1.1 on registers in 64-bit mode.)
 use Rattle.std.specs.Prelude.{◌≡◌, ℕ, ◌+◌, ◌-◌, ◌%◌, ◌^◌, List, [], ◌∷◌, get_or, set, Option, Some, None, Result, Ok, Err}
 use Rattle.byteorder.specs.Endian.{little_bytes, little_number}
-use Rattle.rz_num.specs.declared.Width.{Width}
-use Rattle.rz_num.specs.declared.Width.TheVariants.{W8, W16, W32, W64}
+use Rattle.rz_num.specs.declared.width.Width.{Width}
+use Rattle.rz_num.specs.declared.width.Width.TheVariants.{W8, W16, W32, W64}
+use Rattle.rz_num.specs.Width.{low_bits}
 use Rattle.rz_machine.specs.declared.flags.Flags.{Flags}
 use Rattle.rz_machine.specs.declared.insn.Reg.TheVariants.{R}
 use Rattle.rz_machine.specs.declared.insn.Place.TheVariants as place
@@ -32,10 +33,10 @@ pub record Effect : Type 0 where
 
 -- a register after a value is written to it: 32 bits clear the upper half, 8 and 16 bits leave the rest
 abbrev pub written : Width → ℕ → ℕ → ℕ
-written W8 old v = old - old % 2 ^ 8 + v % 2 ^ 8
-written W16 old v = old - old % 2 ^ 16 + v % 2 ^ 16
-written W32 old v = v % 2 ^ 32
-written W64 old v = v % 2 ^ 64
+written W8 old v = old - low_bits W8 old + low_bits W8 v
+written W16 old v = old - low_bits W16 old + low_bits W16 v
+written W32 old v = low_bits W32 v
+written W64 old v = low_bits W64 v
 
 abbrev pub put_reg : Width → List ℕ → ℕ → ℕ → List ℕ
 put_reg w regs r v = set regs r (written w (get_or regs r 0) v)

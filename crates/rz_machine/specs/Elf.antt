@@ -4,6 +4,7 @@ use Rattle.std.specs.Prelude.{ℕ, zero, suc, ◌+◌, ◌-◌, ◌*◌, ◌/◌
 use Rattle.std.specs.List.{list_any, starts_with}
 use Rattle.std.specs.Int.{is_power_of_two}
 use Rattle.byteorder.specs.Endian.{little_number}
+use Rattle.rz_num.specs.Page.{page_up}
 use Rattle.rz_machine.specs.declared.elf.ElfFault.{ElfFault}
 use Rattle.rz_machine.specs.declared.elf.ElfFault.TheVariants as fault
 use Rattle.rz_machine.specs.declared.memory.Perm.{Perm}
@@ -224,9 +225,6 @@ load_bytes x s = take s.filesz (drop s.offset x) ++ zeros (s.memsz - s.filesz)
 
 abbrev pub load_region : List ℕ → Segment → Region
 load_region x s = record { base = s.vaddr; bytes = load_bytes x s; opened = s.memsz; perm = perm_of s.flags }
-
-abbrev pub page_up : ℕ → ℕ
-page_up n = (n + 4095) / 4096 * 4096
 
 -- where the highest load ends
 abbrev pub highest_end : List Segment → ℕ

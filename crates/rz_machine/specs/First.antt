@@ -2,7 +2,8 @@
 -- (Intel SDM, volume 2, "MOV" B8+rd id, "JMP" E9 cd, "SYSCALL" 0F 05, "UD2" 0F 0B).
 use Rattle.std.specs.Prelude.{◌≡◌, ◌≢◌, ℕ, ◌+◌, ◌-◌, ◌*◌, ◌/◌, ◌%◌, ◌^◌, ◌<◌, ◌≤◌, ◌⊎◌, Bool, ◌&&◌, if◌then◌else◌, nat_lt, nat_le, ◌==◌, List, [], ◌∷◌, ◌++◌, length, take}
 use Rattle.byteorder.specs.Endian.{little_bytes, little_number}
-use Rattle.rz_num.specs.declared.Width.TheVariants.{W32}
+use Rattle.rz_num.specs.declared.width.Width.TheVariants.{W32}
+use Rattle.rz_num.specs.Width.{half, extend}
 use Rattle.rz_machine.specs.declared.insn.Reg.TheVariants.{R}
 use Rattle.rz_machine.specs.declared.insn.Place.TheVariants as place
 use Rattle.rz_machine.specs.declared.insn.Operand.TheVariants.{Imm}
@@ -12,13 +13,9 @@ use Rattle.rz_machine.specs.declared.decode.Decoded.{Decoded}
 use Rattle.rz_machine.specs.declared.decode.Decoded.TheVariants as decoded
 use Rattle.rz_machine.specs.Memory.{wrap}
 
--- a displacement of four bytes is signed
-abbrev pub sign_extended : ℕ → ℕ
-sign_extended d = if nat_lt d (2 ^ 31) then d else d + (2 ^ 64 - 2 ^ 32)
-
--- the address that a displacement from `next` names
+-- the address that a displacement of four bytes from `next` names; it is signed
 abbrev pub displaced : ℕ → ℕ → ℕ
-displaced next d = wrap (next + sign_extended d)
+displaced next d = wrap (next + extend (half W32) d)
 
 -- MOV of a number to a 32-bit register
 abbrev pub mov_number : ℕ → ℕ → Insn

@@ -1,7 +1,6 @@
 -- Instructions: their kinds, their static successors, and what a table may name.
 use Rattle.std.specs.Prelude.{ℕ, ◌^◌, ◌<◌, Bool, true, false, List, [], ◌∷◌, Option, Some, None}
-use Rattle.rz_num.specs.declared.Width.{Width}
-use Rattle.rz_num.specs.declared.Width.TheVariants.{W8, W16, W32, W64}
+use Rattle.rz_num.specs.Width.{size}
 use Rattle.rz_machine.specs.declared.insn.Reg.TheVariants.{R}
 use Rattle.rz_machine.specs.declared.insn.Place.TheVariants as place
 use Rattle.rz_machine.specs.declared.insn.Operand.TheVariants.{Imm}
@@ -11,13 +10,6 @@ use Rattle.rz_machine.specs.declared.insn.Kind.{Kind}
 use Rattle.rz_machine.specs.declared.insn.Kind.TheVariants as kind
 use Rattle.rz_machine.specs.declared.decode.Decoded.{Decoded}
 use Rattle.rz_machine.specs.declared.decode.Decoded.TheVariants as decoded
-
--- how many numbers a width has
-abbrev pub size : Width → ℕ
-size W8 = 2 ^ 8
-size W16 = 2 ^ 16
-size W32 = 2 ^ 32
-size W64 = 2 ^ 64
 
 abbrev pub kind_of : Insn → Kind
 kind_of (insn.Mov w dst src) = kind.Plain
