@@ -1,3 +1,4 @@
 pub mod MemoryLaws
 pub mod StepLaws
 pub mod CodeLaws
+pub mod OneForm
