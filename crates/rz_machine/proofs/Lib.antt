@@ -2,3 +2,4 @@ pub mod MemoryLaws
 pub mod StepLaws
 pub mod CodeLaws
 pub mod OneForm
+pub mod RegLaws
