@@ -3,3 +3,4 @@ pub mod StepLaws
 pub mod CodeLaws
 pub mod OneForm
 pub mod RegLaws
+pub mod Runs
