@@ -32,10 +32,6 @@ pub record AreRegs (regs : List ℕ) : Type 0 where
   pub sixteen : length regs ≡ 16
   pub words : AllByRecursion IsWord regs
 
--- what a table's decoder names is fit for the machine
-abbrev pub Names : Decoder → Type 0
-Names dec = (bs : List ℕ) (at : ℕ) (x : Insn) (len : ℕ) → dec bs at ≡ decoded.Insn x len → IsNamed x
-
 set_words : (regs : List ℕ) (i v : ℕ) → AllByRecursion IsWord regs → IsWord v → AllByRecursion IsWord (set regs i v)
 set_words [] i v h w = h
 set_words (x ∷ xs) zero v h w = (w, h.1)
@@ -86,10 +82,10 @@ answer_word regs m w = go (call_in regs) _ _ _
     go Exit a b n = omega arith
     go Other a b n = omega arith
 
--- one step over a decoder that names what is fit
-pub step_regs : (dec : Decoder) → Names dec → (s : Machine) → AreRegs s.cpu.regs → AreRegs (step dec s).cpu.regs
+-- one step of an instruction that is fit for the machine
+pub step_regs : (dec : Decoder) (s : Machine) → ((x : Insn) (len : ℕ) → decoded_at dec s ≡ decoded.Insn x len → IsNamed x) → AreRegs s.cpu.regs → AreRegs (step dec s).cpu.regs
 unfolding step carry read_words
-step_regs dec names s h = run s.end
+step_regs dec s named h = run s.end
   where
     call : (o : Option ℕ) (c : Called) (next : ℕ) → IsWord c.answer → IsWord next → AreRegs (after_exit o c next s).cpu.regs
     call (Some status) c next a n = h
@@ -102,10 +98,10 @@ step_regs dec names s h = run s.end
     does insn.Syscall next x n = call _ (answer s.cpu.regs s.mem s.world) next (answer_word s.cpu.regs s.mem s.world) n
 
     acts : (d : Decoded) → ((x : Insn) (len : ℕ) → d ≡ decoded.Insn x len → IsNamed x) → AreRegs (act d s).cpu.regs
-    acts (decoded.Insn x len) named = does x (wrap (s.cpu.rip + len)) (named x len refl) (omega arith)
-    acts decoded.Short named = h
-    acts decoded.Unknown named = h
+    acts (decoded.Insn x len) fit = does x (wrap (s.cpu.rip + len)) (fit x len refl) (omega arith)
+    acts decoded.Short fit = h
+    acts decoded.Unknown fit = h
 
     run : (o : Option End) → AreRegs (running o dec s).cpu.regs
-    run None = acts (decoded_at dec s) (names _ s.cpu.rip)
+    run None = acts (decoded_at dec s) named
     run (Some why) = h
