@@ -4,3 +4,4 @@ pub mod CodeLaws
 pub mod OneForm
 pub mod RegLaws
 pub mod Runs
+pub mod Placed
