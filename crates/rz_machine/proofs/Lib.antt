@@ -5,3 +5,4 @@ pub mod OneForm
 pub mod RegLaws
 pub mod Runs
 pub mod Placed
+pub mod Comes
