@@ -6,3 +6,5 @@ pub mod RegLaws
 pub mod Runs
 pub mod Placed
 pub mod Comes
+pub mod Fragment
+pub mod Trimmed
