@@ -8,3 +8,4 @@ pub mod Placed
 pub mod Comes
 pub mod Fragment
 pub mod Trimmed
+pub mod Emitted
