@@ -9,3 +9,4 @@ pub mod Comes
 pub mod Fragment
 pub mod Trimmed
 pub mod Emitted
+pub mod Cells
