@@ -10,3 +10,4 @@ pub mod Fragment
 pub mod Trimmed
 pub mod Emitted
 pub mod Cells
+pub mod Images

@@ -16,3 +16,4 @@ pub mod Thin
 pub mod Rewritable
 pub mod Fragments
 pub mod Pace
+pub mod PlainImage

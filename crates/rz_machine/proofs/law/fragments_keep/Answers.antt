@@ -9,6 +9,7 @@ use Rattle.rz_machine.proofs.Fragment.{fragment_follows}
 use Rattle.rz_machine.proofs.Trimmed.{fragment_stands}
 use Rattle.rz_machine.proofs.Emitted.{found}
 use Rattle.rz_machine.proofs.Cells.{fetch_low}
+use Rattle.rz_machine.proofs.Images.{beside}
 use Rattle.rz_machine.specs.FirstLaws.{names_insns}
 use Rattle.rz_machine.proofs.law.fragments_keep.Goals as goal
 
