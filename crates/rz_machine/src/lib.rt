@@ -3,6 +3,7 @@
 
 pub mod decode;
 pub mod elf;
+pub mod elf_law;
 pub mod elf_write;
 pub mod flags;
 pub mod insn;
