@@ -19,13 +19,13 @@ pub record IsEncodable (s : Segment) : Type 0 where
   pub memsz : s.memsz < 2 ^ 64
   pub align : s.align < 2 ^ 64
 
-word : (v : ℕ) → v < 2 ^ 32 → little_number 4 (little_bytes 4 v) ≡ v
+pub word : (v : ℕ) → v < 2 ^ 32 → little_number 4 (little_bytes 4 v) ≡ v
 word v h = little_number-reads_back 4 v [] h
 
-long : (v : ℕ) → v < 2 ^ 64 → little_number 8 (little_bytes 8 v) ≡ v
+pub long : (v : ℕ) → v < 2 ^ 64 → little_number 8 (little_bytes 8 v) ≡ v
 long v h = little_number-reads_back 8 v [] h
 
-half : (v : ℕ) → v < 2 ^ 16 → little_number 2 (little_bytes 2 v) ≡ v
+pub half : (v : ℕ) → v < 2 ^ 16 → little_number 2 (little_bytes 2 v) ≡ v
 half v h = little_number-reads_back 2 v [] h
 
 -- the program header that was written first

@@ -1,3 +1,4 @@
 pub mod Accepted
 pub mod HeaderLaws
 pub mod ThinLaws
+pub mod WrittenLaws
