@@ -9,7 +9,7 @@ use Rattle.rz_num.specs.Page.{page_up}
 use Rattle.rz_machine.specs.declared.memory.Region.{Region}
 use Rattle.rz_machine.specs.Memory.{Regions, zeros, whole_region}
 use Rattle.rz_machine.specs.Added.{scratch_size}
-use Rattle.rz_machine.specs.Elf.{Segment, segments, segments_of, loads, file_header, FileHeader, field, has_entry, fault_of, load_bytes, load_region, highest_end, Image, image_of}
+use Rattle.rz_machine.specs.Elf.{Segment, segments, segments_of, loads, file_header, FileHeader, field, has_entry, fault_of, perm_of, load_bytes, load_region, highest_end, Image, image_of}
 use Rattle.rz_machine.specs.WrittenFile.{Parts, segment_bytes, header_bytes, header_page, added_segment, added_segments, kept_segments, new_segments, written_file, added_regions, read_only, read_write, read_execute, without_code, new_image}
 use Rattle.rz_machine.specs.Thin.{thin_base, thin_file}
 use Rattle.rz_machine.proofs.HeaderLaws.{IsEncodable, segments_of-segment_bytes, word, long, half}
@@ -314,3 +314,40 @@ at_original code p entry h k =
 -- a load whose bytes stand whole in the file
 region_of_part : (w a b : List ℕ) (flags offset at : ℕ) → drop offset w ≡ a ++ b → load_bytes w (added_segment flags offset at (length a) (length a)) ≡ a
 region_of_part w a b flags offset at h = rw (h, zeros-none (length a), append-nil) (take_at a b (length a) refl)
+
+-- the region of a load whose bytes stand whole in the file
+part_region : (w a b : List ℕ) (flags offset at : ℕ) → drop offset w ≡ a ++ b → load_region w (added_segment flags offset at (length a) (length a)) ≡ whole_region at a (perm_of flags)
+part_region w a b flags offset at h = ap (λ (c : List ℕ). record { base = at; bytes = c; opened = length a; perm = perm_of flags }) (region_of_part w a b flags offset at h)
+
+scratch_region : (w : List ℕ) (at : ℕ) → load_region w (added_segment 6 0 at 0 scratch_size) ≡ whole_region at (zeros scratch_size) read_write
+scratch_region w at = ap (λ (n : ℕ). record { base = at; bytes = zeros 4096; opened = n; perm = read_write }) (sym (length-zeros 4096))
+
+written_regions : (code : List ℕ) (p : Parts) (entry : ℕ) → 1 ≤ length code → length code ≤ 65536 → map (load_region (written_file (thin_file code) p entry)) (written_segments (length code) p) ≡ added_regions p ++ map without_code (code_region code ∷ [])
+written_regions code p entry h k =
+    let w = written_file (thin_file code) p entry in
+    let n = length code in
+    let t = length p.tables in
+    let c = length p.code in
+    let o = at_original code p entry h k in
+    let stubs : drop (tables_at n + t + c) w ≡ p.stubs ++ [] = at_stubs code p entry h k ∙ sym (append-nil p.stubs) in
+    let r0 = scratch_region w p.base in
+    let r1 = part_region w p.tables (p.code ++ p.stubs) 4 (tables_at n) (p.base + 4096) (at_tables code p entry h k) in
+    let r2 = part_region w p.code p.stubs 5 (tables_at n + t) (p.base + 4096 + t) (at_code code p entry h k) in
+    let r3 = part_region w p.stubs [] 5 (tables_at n + t + c) (p.base + 4096 + t + c) stubs in
+    let r4 = part_region w code o.0 4 8192 thin_base o.1 in
+    λ i. r0 i ∷ r1 i ∷ r2 i ∷ r3 i ∷ r4 i ∷ []
+
+highest_end_at : (n : ℕ) (p : Parts) (entry : ℕ) → PartsFit p entry → highest_end (written_segments n p) ≡ thin_base + n
+highest_end_at n p entry fit = let e = fit.ends in omega arith
+
+image_of_written : (code : List ℕ) (p : Parts) (entry : ℕ) → 1 ≤ length code → length code ≤ 65536 → PartsFit p entry → image_of (written_file (thin_file code) p entry) ≡ new_image (code_image code) p entry
+unfolding image_of
+image_of_written code p entry h k fit =
+    let g = written_headers code p entry h k fit in
+    let e : (file_header (written_file (thin_file code) p entry)).entry ≡ entry = ap (λ (f : FileHeader). f.entry) g.header in
+    let m = highest_end_at (length code) p entry fit in
+    let r = written_regions code p entry h k in
+    rw (loads-good g, e) (λ i. record { loads = r i; entry = entry; first_break = page_up (m i) })
+
+pub written_image : (code : List ℕ) (p : Parts) (entry : ℕ) → 1 ≤ length code → length code ≤ 65536 → PartsFit p entry → image_of (written_file (thin_file code) p entry) ≡ new_image (image_of (thin_file code)) p entry
+written_image code p entry h k fit = image_of_written code p entry h k fit ∙ ap (λ (x : Image). new_image x p entry) (sym (thin_image code h k))
