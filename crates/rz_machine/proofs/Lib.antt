@@ -1,4 +1,5 @@
 pub mod Accepted
 pub mod HeaderLaws
 pub mod ThinLaws
+pub mod Worked
 pub mod WrittenLaws
