@@ -3,3 +3,11 @@ pub mod HeaderLaws
 pub mod ThinLaws
 pub mod Worked
 pub mod WrittenLaws
+pub mod MemoryLaws
+pub mod StepLaws
+pub mod CodeLaws
+pub mod OneForm
+pub mod RegLaws
+pub mod Runs
+pub mod Placed
+pub mod Comes

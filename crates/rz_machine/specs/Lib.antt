@@ -15,3 +15,4 @@ pub mod WrittenFile
 pub mod Thin
 pub mod Rewritable
 pub mod Fragments
+pub mod Pace

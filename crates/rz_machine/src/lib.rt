@@ -8,6 +8,7 @@ pub mod elf_write;
 pub mod flags;
 pub mod insn;
 pub mod items;
+pub mod law;
 pub mod machine;
 pub mod memory;
 pub mod sys;
