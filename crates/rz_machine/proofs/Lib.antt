@@ -1,1 +1,4 @@
 pub mod SetLaws
+pub mod MemoryLaws
+pub mod StepLaws
+pub mod CodeLaws

@@ -6,6 +6,7 @@ pub mod elf;
 pub mod flags;
 pub mod insn;
 pub mod items;
+pub mod law;
 pub mod machine;
 pub mod memory;
 pub mod sys;
