@@ -2,3 +2,5 @@ pub mod SetLaws
 pub mod MemoryLaws
 pub mod StepLaws
 pub mod CodeLaws
+pub mod StartCode
+pub mod TraceLaws

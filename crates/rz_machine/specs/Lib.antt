@@ -15,3 +15,5 @@ pub mod WrittenFile
 pub mod Thin
 pub mod Rewritable
 pub mod Fragments
+pub mod LeftCode
+pub mod Traced
