@@ -4,3 +4,4 @@ pub mod StepLaws
 pub mod CodeLaws
 pub mod StartCode
 pub mod TraceLaws
+pub mod RecordedLaws
