@@ -5,6 +5,7 @@ use Rattle.std.specs.declared.cmp.Ordering.{Ordering}
 use Rattle.std.specs.declared.cmp.Ordering.TheVariants.{Less, Equal, Greater}
 use Rattle.std.specs.Ordering.{nat_cmp, ordering_then, match_ordering}
 use Rattle.std.specs.List.{list_any, AllByRecursion}
+use Rattle.std.specs.List.Sorted.{IsStrictlySortedBy}
 use Rattle.std.specs.BTreeSet.{insert_key}
 use Rattle.std.proofs.lemmas.Map.Lookups.{CmpEqualImpliesEq, exact_unsigned}
 use Rattle.rz_machine.specs.Begun.{pair_cmp, with_nodes, with_edges}
@@ -93,3 +94,21 @@ IsAscending-insert_key (x ∷ xs) k h = go (nat_lt k x) (k == x) refl refl (IsAs
 pub IsAscending-with_nodes : (set more : List ℕ) → IsAscending set → IsAscending (with_nodes set more)
 IsAscending-with_nodes set [] h = h
 IsAscending-with_nodes set (x ∷ xs) h = IsAscending-with_nodes (insert_key nat_cmp set x) xs (IsAscending-insert_key set x h)
+
+less_below : (a b : ℕ) → nat_cmp a b ≡ Less → a < b
+less_below a b e = go (nat_lt a b) (a == b) refl e
+  where
+    go : (p q : Bool) → nat_lt a b ≡ p → cond p Less (cond q Equal Greater) ≡ Less → a < b
+    go true q d e = ltb-true a b d
+    go false true d e = cc
+    go false false d e = cc
+
+all_below : (a : ℕ) (xs : List ℕ) → AllByRecursion (λ b. nat_cmp a b ≡ Less) xs → AllByRecursion (λ b. a < b) xs
+all_below a [] h = tt
+all_below a (x ∷ xs) h = (less_below a x h.0, all_below a xs h.1)
+
+-- sorted keys ascend
+pub IsAscending-from_sorted : (set : List ℕ) → IsStrictlySortedBy nat_cmp set → IsAscending set
+unfolding IsStrictlySortedBy
+IsAscending-from_sorted [] h = tt
+IsAscending-from_sorted (x ∷ xs) h = (all_below x xs h.0, IsAscending-from_sorted xs h.1)
