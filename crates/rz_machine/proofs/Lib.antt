@@ -5,3 +5,4 @@ pub mod CodeLaws
 pub mod StartCode
 pub mod TraceLaws
 pub mod RecordedLaws
+pub mod MemoryTurns

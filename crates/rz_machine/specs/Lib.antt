@@ -17,3 +17,7 @@ pub mod Rewritable
 pub mod Fragments
 pub mod LeftCode
 pub mod Traced
+pub mod TableLaws
+pub mod FirstLaws
+pub mod Left
+pub mod Ran
