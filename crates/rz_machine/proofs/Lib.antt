@@ -11,3 +11,11 @@ pub mod RegLaws
 pub mod Runs
 pub mod Placed
 pub mod Comes
+pub mod SetLaws
+pub mod MemoryLaws
+pub mod StepLaws
+pub mod CodeLaws
+pub mod StartCode
+pub mod TraceLaws
+pub mod RecordedLaws
+pub mod MemoryTurns

@@ -16,3 +16,9 @@ pub mod Thin
 pub mod Rewritable
 pub mod Fragments
 pub mod Pace
+pub mod LeftCode
+pub mod Traced
+pub mod TableLaws
+pub mod FirstLaws
+pub mod Left
+pub mod Ran
