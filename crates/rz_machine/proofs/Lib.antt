@@ -12,9 +12,6 @@ pub mod Runs
 pub mod Placed
 pub mod Comes
 pub mod SetLaws
-pub mod MemoryLaws
-pub mod StepLaws
-pub mod CodeLaws
 pub mod StartCode
 pub mod TraceLaws
 pub mod RecordedLaws
