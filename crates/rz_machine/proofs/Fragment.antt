@@ -25,7 +25,7 @@ use Rattle.rz_machine.specs.Added.{Layout}
 use Rattle.rz_machine.specs.Keeps.{Same, Edges, AlikeEnds}
 use Rattle.rz_machine.proofs.CodeLaws.{HasCode, step_code}
 use Rattle.rz_machine.proofs.OneForm.{DoneAlike, carry_alike, CalledAlike, call_alike}
-use Rattle.rz_machine.proofs.Runs.{dest, Follows, Stand}
+use Rattle.rz_machine.proofs.WholeRuns.{dest, Follows, Stand}
 use Rattle.rz_machine.proofs.Placed.{InsnAt}
 use Rattle.rz_machine.proofs.Comes.{decodes_to, step_is, jump_is, ud2_is, Comes, stay, one_more, weaker, jump_comes, Onto, onto}
 

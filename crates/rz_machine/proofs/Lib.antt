@@ -1,9 +1,14 @@
+pub mod Accepted
+pub mod HeaderLaws
+pub mod ThinLaws
+pub mod Worked
+pub mod WrittenLaws
 pub mod MemoryLaws
 pub mod StepLaws
 pub mod CodeLaws
 pub mod OneForm
 pub mod RegLaws
-pub mod Runs
+pub mod WholeRuns
 pub mod Placed
 pub mod Comes
 pub mod Fragment
@@ -11,3 +16,8 @@ pub mod Trimmed
 pub mod Emitted
 pub mod Cells
 pub mod Images
+pub mod SetLaws
+pub mod StartCode
+pub mod TraceLaws
+pub mod RecordedLaws
+pub mod MemoryTurns

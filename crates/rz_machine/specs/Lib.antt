@@ -17,3 +17,9 @@ pub mod Rewritable
 pub mod Fragments
 pub mod Pace
 pub mod PlainImage
+pub mod LeftCode
+pub mod Traced
+pub mod TableLaws
+pub mod FirstLaws
+pub mod Left
+pub mod Ran
