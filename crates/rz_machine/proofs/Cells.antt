@@ -7,41 +7,6 @@ use Rattle.rz_machine.specs.declared.memory.Region.{Region}
 use Rattle.rz_machine.specs.Memory.{Regions, no_cell, contains, cell_in, cell_at, code_of, fetched, fetch, SameCode, NoSelfWritten}
 use Rattle.rz_machine.specs.PlainImage.{IsPlainRegion}
 
--- whether some region has an address
-abbrev pub covers : Regions → ℕ → Bool
-covers [] a = false
-covers (r ∷ rs) a = if contains r a then true else covers rs a
-
--- in a list of two parts, an address of the first
-pub cell_at-front : (m n : Regions) (a : ℕ) → covers m a ≡ true → cell_at (m ++ n) a ≡ cell_at m a
-unfolding cell_at
-cell_at-front [] n a h = absurd (cc)
-cell_at-front (r ∷ rs) n a h = go (contains r a) (λ e. cell_at-front rs n a e) h
-  where
-    go : (c : Bool) → (covers rs a ≡ true → cell_at (rs ++ n) a ≡ cell_at rs a) → (if c then true else covers rs a) ≡ true → (if c then cell_in r (a - r.base) else cell_at (rs ++ n) a) ≡ (if c then cell_in r (a - r.base) else cell_at rs a)
-    go true ih h = refl
-    go false ih h = ih h
-
--- and one that the first doesn't have
-pub cell_at-back : (m n : Regions) (a : ℕ) → covers m a ≡ false → cell_at (m ++ n) a ≡ cell_at n a
-unfolding cell_at
-cell_at-back [] n a h = refl
-cell_at-back (r ∷ rs) n a h = go (contains r a) (λ e. cell_at-back rs n a e) h
-  where
-    go : (c : Bool) → (covers rs a ≡ false → cell_at (rs ++ n) a ≡ cell_at n a) → (if c then true else covers rs a) ≡ false → (if c then cell_in r (a - r.base) else cell_at (rs ++ n) a) ≡ cell_at n a
-    go true ih h = absurd (cc)
-    go false ih h = ih h
-
--- no region, no cell
-pub cell_at-none : (m : Regions) (a : ℕ) → covers m a ≡ false → cell_at m a ≡ no_cell
-unfolding cell_at
-cell_at-none [] a h = refl
-cell_at-none (r ∷ rs) a h = go (contains r a) (λ e. cell_at-none rs a e) h
-  where
-    go : (c : Bool) → (covers rs a ≡ false → cell_at rs a ≡ no_cell) → (if c then true else covers rs a) ≡ false → (if c then cell_in r (a - r.base) else cell_at rs a) ≡ no_cell
-    go true ih h = absurd (cc)
-    go false ih h = ih h
-
 and_false : (b : Bool) → (b && false) ≡ false
 and_false true = refl
 and_false false = refl
@@ -68,7 +33,8 @@ cells P none (r ∷ rs) h a = go (contains r a) refl (cells P none rs h.1 a)
     go true e ih = h.0 a e
     go false e ih = ih
 
-all_map : (P Q : Region → Type 0) → ((r : Region) → P r → Q r) → (m : Regions) → AllByRecursion P m → AllByRecursion Q m
+-- a property that follows from another
+pub all_map : (P Q : Region → Type 0) → ((r : Region) → P r → Q r) → (m : Regions) → AllByRecursion P m → AllByRecursion Q m
 all_map P Q f [] h = tt
 all_map P Q f (r ∷ rs) h = (f r h.0, all_map P Q f rs h.1)
 
@@ -88,30 +54,6 @@ none_self_written m h = record { at = cells P (λ a w. refl) m (all_map IsFixed 
         let k = a - r.base in
         let parts = and_parts (nat_lt k r.opened) r.perm.write w in
         ap (λ b. nat_lt k r.opened && b) (f parts.1) ∙ and_false (nat_lt k r.opened)
-
--- a region that may not be executed
-abbrev pub IsNoCode : Region → Type 0
-IsNoCode r = r.perm.execute ≡ false
-
--- such regions behind others add no code
-pub no_code : (m n : Regions) → AllByRecursion IsNoCode n → SameCode m (m ++ n)
-no_code m n h = record { at = λ a. go a (covers m a) refl }
-  where
-    P : ℕ → Cell → Type 0
-    P a c = code_of c ≡ None
-
-    off : (r : Region) → IsNoCode r → (a : ℕ) → contains r a ≡ true → P a (cell_in r (a - r.base))
-    off r f a i =
-        let k = a - r.base in
-        let e : (nat_lt k r.opened && r.perm.execute) ≡ false = ap (λ b. nat_lt k r.opened && b) f ∙ and_false (nat_lt k r.opened) in
-        ap (λ b. if b then Some (cell_in r k).byte else None) e
-
-    none : (a : ℕ) → code_of (cell_at n a) ≡ None
-    none = cells P (λ a. refl) n (all_map IsNoCode _ off n h)
-
-    go : (a : ℕ) (c : Bool) → covers m a ≡ c → code_of (cell_at m a) ≡ code_of (cell_at (m ++ n) a)
-    go a true e = ap code_of (sym (cell_at-front m n a e))
-    go a false e = ap code_of (cell_at-none m a e) ∙ sym (none a) ∙ ap code_of (sym (cell_at-back m n a e))
 
 get_byte : (bs : List ℕ) (k : ℕ) → AllByRecursion (λ b. b < 256) bs → get_or bs k 0 < 256
 get_byte [] k h = omega arith

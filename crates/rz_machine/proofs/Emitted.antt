@@ -1,6 +1,6 @@
 -- The fragments' bytes one after the other: their lengths, and where each fragment stands.
 use Rattle.std.proofs.Common.{◌≡◌, ◌≢◌, ℕ, suc, ◌+◌, ◌*◌, ◌<◌, ◌≤◌, Bool, true, false, ◌||◌, if◌then◌else◌, ◌==◌, List, [], ◌∷◌, ◌++◌, length, Option, Some, None, refl, sym, ap, ap₂, ◌∙◌, subst, arith, append_assoc, length-append, eqb-true, eq-eqb, ne_eqb}
-use Rattle.std.specs.List.{AllByRecursion}
+use Rattle.std.specs.List.{AllByRecursion, list_any}
 use Rattle.std.proofs.lemmas.Bool.{cond-true, cond-false}
 use Rattle.rz_machine.specs.declared.insn.Insn.{Insn}
 use Rattle.rz_machine.specs.declared.decode.Decoded.{Decoded}
@@ -44,6 +44,16 @@ place_low (f ∷ rest) from a = go (f.at == a) (place_low rest (from + items_len
     go true h = omega arith
     go false h = omega arith
 
+-- and the place of a fragment that is there is not before their start
+pub place_high : (frags : List Fragment) (from a : ℕ) → list_any (λ f. f.at == a) frags ≡ true → from ≤ place_in frags from a
+place_high [] from a e = absurd (cc)
+place_high (f ∷ rest) from a e = go (f.at == a) e (place_high rest (from + items_len f.items) a)
+  where
+    go : (b : Bool) → (b || list_any (λ g. g.at == a) rest) ≡ true → (list_any (λ g. g.at == a) rest ≡ true → from + items_len f.items ≤ place_in rest (from + items_len f.items) a)
+        → from ≤ (if b then from else place_in rest (from + items_len f.items) a)
+    go true e ih = omega arith
+    go false e ih = let h = ih e in omega (arith, h)
+
 -- a member of a list is above what is below all of it
 above : (a : ℕ) (nodes : List ℕ) → AllByRecursion (λ b. a < b) nodes → (b : ℕ) → has_node nodes b ≡ true → a < b
 above a [] h b e = absurd (cc)
@@ -60,6 +70,15 @@ module _ (dec : Decoder) (x : Regions) (edges : Edges) where
   -- the items of a fragment before a following one
   abbrev pub items : ℕ → Option ℕ → List Item
   items a following = trimmed following (items_for edges a (spelled_at dec x a))
+
+  -- a node has a fragment
+  has_frag : (nodes : List ℕ) (a : ℕ) → list_any (λ f. f.at == a) (frags nodes) ≡ has_node nodes a
+  has_frag [] a = refl
+  has_frag (c ∷ nodes) a = ap (λ v. (c == a) || v) (has_frag nodes a)
+
+  -- which is not before their start
+  pub place_from : (nodes : List ℕ) (from a : ℕ) → has_node nodes a ≡ true → from ≤ place_in (frags nodes) from a
+  place_from nodes from a e = place_high (frags nodes) from a (has_frag nodes a ∙ e)
 
   -- at most 12 bytes a fragment
   pub total_most : (nodes : List ℕ) → total_len (frags nodes) ≤ 12 * length nodes
@@ -78,7 +97,6 @@ module _ (dec : Decoder) (x : Regions) (edges : Edges) where
   pub record Found (m : Regions) (at : Label → ℕ) (nodes : List ℕ) (from a : ℕ) : Type 0 where
     pub following : Option ℕ
     pub bytes : BytesAt m (place_in (frags nodes) from a) (items_bytes at (place_in (frags nodes) from a) (items a following))
-    pub low : from ≤ place_in (frags nodes) from a
     pub high : place_in (frags nodes) from a + items_len (items a following) ≤ from + total_len (frags nodes)
     pub next : (b : ℕ) → following ≡ Some b → (has_node nodes b ≡ true) × (place_in (frags nodes) from a + items_len (items a following) ≡ place_in (frags nodes) from b)
 
@@ -133,7 +151,6 @@ module _ (dec : Decoder) (x : Regions) (edges : Edges) where
           record {
             following = first_node nodes;
             bytes = subst Q (sym place) (subst P same (bytes_front m from mine (rest ++ fill) split));
-            low = omega (arith, place);
             high = omega (arith, place, long);
             next = λ d f. let s = second c nodes from d up f in (s.0, ap₂ ◌+◌ place long ∙ s.1);
           }
@@ -146,7 +163,6 @@ module _ (dec : Decoder) (x : Regions) (edges : Edges) where
           record {
             following = f.following;
             bytes = subst Q (sym place) f.bytes;
-            low = omega (arith, place, f.low);
             high = omega (arith, place, f.high);
             next = λ d g. let s = f.next d g in let less = above c nodes up.0 d s.0 in let other : (c == d) ≡ false = ne_eqb c d (λ e. omega arith) in (
               ap₂ ◌||◌ other s.0,

@@ -21,3 +21,5 @@ pub mod StartCode
 pub mod TraceLaws
 pub mod RecordedLaws
 pub mod MemoryTurns
+pub mod Parts
+pub mod KeepsWritten

@@ -23,3 +23,4 @@ pub mod TableLaws
 pub mod FirstLaws
 pub mod Left
 pub mod Ran
+pub mod Rewritten
