@@ -23,3 +23,4 @@ pub mod RecordedLaws
 pub mod MemoryTurns
 pub mod Parts
 pub mod KeepsWritten
+pub mod RewrittenLaws
