@@ -11,7 +11,7 @@ use Rattle.rz_machine.proofs.Emitted.{found}
 use Rattle.rz_machine.proofs.Cells.{fetch_low}
 use Rattle.rz_machine.proofs.Images.{beside}
 use Rattle.rz_machine.proofs.Parts.{stub_found}
-use Rattle.rz_machine.proofs.RewrittenLaws.{lie}
+use Rattle.rz_machine.proofs.KeepsWritten.{plain_fixed}
 use Rattle.rz_machine.specs.FirstLaws.{names_insns}
 use Rattle.rz_machine.proofs.law.fragments_keep.Goals as goal
 
