@@ -1,11 +1,19 @@
 -- What the added parts hold where a file is rewritten: the fragments and the stubs of the kept nodes.
-use Rattle.std.specs.Prelude.{◌≡◌, ℕ, ◌+◌, ◌-◌, ◌≤◌, List, ◌++◌, length}
+use Rattle.std.specs.Prelude.{◌≡◌, ℕ, ◌+◌, ◌-◌, ◌*◌, ◌≤◌, true, List, ◌++◌, length}
 use Rattle.rz_machine.specs.declared.items.Fragment.{Fragment}
+use Rattle.rz_machine.specs.declared.items.Label.{Label}
+use Rattle.rz_machine.specs.declared.sys.Input.{Input}
 use Rattle.rz_machine.specs.declared.trace.Record.{Record}
+use Rattle.rz_machine.specs.Memory.{IsInside}
 use Rattle.rz_machine.specs.Elf.{Image}
 use Rattle.rz_machine.specs.Insn.{Decoder}
-use Rattle.rz_machine.specs.Added.{sites, site_edges, scratch_size, tables_size, code_size, stubs_size, lowest, page_floor, added}
-use Rattle.rz_machine.specs.WrittenFile.{Parts, stubs_part}
+use Rattle.rz_machine.specs.Added.{sites, site_edges, scratch_size, tables_size, code_size, stubs_size, lowest, page_floor, added, layout_of}
+use Rattle.rz_machine.specs.WrittenFile.{Parts, stubs_part, new_image}
+use Rattle.rz_machine.specs.Start.{start}
+use Rattle.rz_machine.specs.Keeps.{KeepsRun}
+use Rattle.rz_machine.specs.Pace.{Paced}
+use Rattle.rz_machine.specs.PlainImage.{IsPlainImage}
+use Rattle.rz_machine.specs.Rewritable.{IsRewritable, has_node}
 use Rattle.rz_machine.specs.Fragments.{fragments, place_in, address_of, fragments_bytes}
 
 -- the fragments of the kept nodes
@@ -41,3 +49,26 @@ pub record IsRewritten (dec : Decoder) (x : Image) (kept : Record) (parts : Part
   pub code : parts.code ≡ code_of_nodes dec x kept ++ fill
   pub stubs : parts.stubs ≡ stubs_part (added dec x kept) kept.nodes
   pub begins : entry ≡ place_of dec x kept x.entry
+
+-- each file that is so rewritten keeps each run of the original
+abbrev pub RewrittenKeeps : Decoder → Type 0
+RewrittenKeeps dec =
+    (x : Image) (kept : Record) (parts : Parts) (entry : ℕ) → IsRewritable dec x kept → IsPlainImage x → IsRewritten dec x kept parts entry → (input : Input)
+    → KeepsRun dec kept.edges (layout_of dec x kept) (start x input) (start (new_image x parts entry) input)
+
+-- and takes one to `bound` steps for each step of it
+abbrev pub RewrittenPaced : Decoder → ℕ → Type 0
+RewrittenPaced dec bound =
+    (x : Image) (kept : Record) (parts : Parts) (entry : ℕ) → IsRewritable dec x kept → IsPlainImage x → IsRewritten dec x kept parts entry → (input : Input)
+    → Paced dec kept.edges (layout_of dec x kept) (λ a. bound) (start x input) (start (new_image x parts entry) input)
+
+-- fragments take at most 32 bytes a node, wherever they stand and whatever their labels name
+abbrev pub FragmentsFit : Decoder → Type 0
+FragmentsFit dec =
+    (at : Label → ℕ) (from : ℕ) (x : Image) (kept : Record) → length (fragments_bytes at from (fragments_of dec x kept)) ≤ 32 * length kept.nodes
+
+-- where there is room, the fragment of a kept node lies in the code part
+abbrev pub PlacesInCode : Decoder → Type 0
+PlacesInCode dec =
+    (x : Image) (kept : Record) → HasRoom dec x kept → (a : ℕ) → has_node kept.nodes a ≡ true
+    → IsInside (layout_of dec x kept).code (place_of dec x kept a)
