@@ -10,5 +10,6 @@ pub mod insn;
 pub mod items;
 pub mod machine;
 pub mod memory;
+pub mod segment;
 pub mod sys;
 pub mod trace;
