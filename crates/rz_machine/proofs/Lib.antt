@@ -1,4 +1,5 @@
 pub mod Accepted
+pub mod AddedLaws
 pub mod HeaderLaws
 pub mod ThinLaws
 pub mod Worked
