@@ -13,7 +13,7 @@ use Rattle.rz_machine.specs.Nodes.{is_site_at}
 use Rattle.rz_machine.specs.First.{decode_first, jmp_of, mov_of, second_of}
 use Rattle.rz_machine.specs.Elf.{Image, image_of, fault_of}
 use Rattle.rz_machine.specs.Added.{Added, sites, site_edges, tables_size, code_size, stubs_size, scratch_size, parts_below, added, stub_bytes, all_stubs, filled}
-use Rattle.rz_machine.specs.WrittenFile.{Parts, stubs_part, written_file, new_image, Inert}
+use Rattle.rz_machine.specs.WrittenFile.{Parts, IsAdded, stubs_part, written_file, new_image, Inert}
 use Rattle.rz_machine.specs.Thin.{thin_base, thin_file, IsThin}
 use Rattle.rz_machine.proofs.ThinLaws.{code_region, code_image, thin_image}
 use Rattle.rz_machine.proofs.WrittenLaws.{PartsFit, written_accepted, written_image}
@@ -117,15 +117,6 @@ fit_below code_len stubs_len entry p a b c d e f base tables code stubs from bel
     entry_from = omega arith;
     entry_below = omega arith;
   }
-
--- parts of the sizes and at the place of the added parts
-pub record IsAdded (a : Added) (nodes : List ℕ) (p : Parts) (entry : ℕ) : Type 0 where
-  pub base : p.base ≡ a.scratch
-  pub tables : length p.tables ≡ a.code - a.tables
-  pub code : length p.code ≡ a.stubs - a.code
-  pub stubs : p.stubs ≡ stubs_part a nodes
-  pub entry_from : a.code ≤ entry
-  pub entry_below : entry < a.stubs
 
 pub parts_fit : (nodes : List ℕ) (p : Parts) (entry : ℕ) → 1 ≤ length nodes → length nodes ≤ 65536 → IsAdded (thin_added (length nodes)) nodes p entry → PartsFit p entry
 parts_fit nodes p entry some few h =

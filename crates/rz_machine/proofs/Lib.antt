@@ -2,5 +2,4 @@ pub mod Accepted
 pub mod AddedLaws
 pub mod HeaderLaws
 pub mod ThinLaws
-pub mod Worked
 pub mod WrittenLaws

@@ -13,5 +13,6 @@ pub mod Added
 pub mod Keeps
 pub mod WrittenFile
 pub mod Thin
+pub mod Greeting
 pub mod Rewritable
 pub mod Fragments
