@@ -1,7 +1,7 @@
 pub mod Accepted
+pub mod AddedLaws
 pub mod HeaderLaws
 pub mod ThinLaws
-pub mod Worked
 pub mod WrittenLaws
 pub mod MemoryLaws
 pub mod StepLaws

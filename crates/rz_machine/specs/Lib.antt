@@ -13,6 +13,7 @@ pub mod Added
 pub mod Keeps
 pub mod WrittenFile
 pub mod Thin
+pub mod Greeting
 pub mod Rewritable
 pub mod Fragments
 pub mod Pace

@@ -14,6 +14,7 @@ pub mod law;
 pub mod kinds;
 pub mod machine;
 pub mod memory;
+pub mod segment;
 pub mod sys;
 pub mod table;
 pub mod trace;
