@@ -30,7 +30,7 @@ use Rattle.rz_machine.specs.Pace.{Paced}
 use Rattle.rz_machine.specs.Rewritable.{IsRewritable, has_node}
 use Rattle.rz_machine.specs.Fragments.{items_of, items_for, trimmed, items_len, resolved, address_of, items_bytes}
 use Rattle.rz_machine.specs.PlainImage.{IsPlainImage, IsPlainRegion}
-use Rattle.rz_machine.specs.Rewritten.{IsRewritten, fragments_of, place_of, code_of_nodes}
+use Rattle.rz_machine.specs.Rewritten.{HasRoom, IsRewritten, fragments_of, place_of, code_of_nodes}
 use Rattle.rz_machine.proofs.CodeLaws.{HasCode}
 use Rattle.rz_machine.proofs.RegLaws.{AreRegs, set_regs}
 use Rattle.rz_machine.proofs.WholeRuns.{Follows, Stand, keeps, paced}
@@ -81,7 +81,7 @@ module _ (x : Image) (plain : IsPlainImage x) where
         low = fetch_low x.loads 0x70000000 (λ c. (plain_cell x.loads plain c).1) b 15 len (omega (arith, fit.1)) fit.3;
       }
 
-module _ (x : Image) (kept : Record) (parts : Parts) (entry : ℕ) (can : IsRewritable decode_first x kept) (plain : IsPlainImage x) (are : IsRewritten decode_first x kept parts entry) (input : Input) where
+module _ (x : Image) (kept : Record) (parts : Parts) (entry : ℕ) (can : IsRewritable decode_first x kept) (plain : IsPlainImage x) (room : HasRoom decode_first x kept) (are : IsRewritten decode_first x kept parts entry) (input : Input) where
   abbrev a : Added
   a = added decode_first x kept
 
@@ -114,7 +114,7 @@ module _ (x : Image) (kept : Record) (parts : Parts) (entry : ℕ) (can : IsRewr
   new_mem = append_assoc (added_regions parts) (map without_code x.loads) ends
 
   where_parts_lie : Lie a parts.base (length parts.tables) (length parts.code) (length parts.stubs)
-  where_parts_lie = lie decode_first x kept parts entry are
+  where_parts_lie = lie decode_first x kept room parts entry are.parts_added
 
   -- both memories are alike at the start
   alike : Alike lay.added old.mem new.mem
@@ -157,13 +157,13 @@ module _ (x : Image) (kept : Record) (parts : Parts) (entry : ℕ) (can : IsRewr
       let its : List Item = trimmed f.following whole in
       let same : items decode_first x.loads kept.edges b f.following ≡ its = ap (λ d. trimmed f.following (items_for kept.edges b d)) s.spelled in
       let bytes : BytesAt new.mem (place b) (items_bytes at (place b) its) = subst (λ l. BytesAt new.mem (place b) (items_bytes at (place b) l)) same f.bytes in
-      let top : place b + 512 ≤ 0x70000000 = below (place b) a.stubs (length kept.nodes) a.stop (place_below decode_first x kept are.room b) (stubs_room decode_first x kept are.room) (stop_low decode_first x kept are.room plain) in
+      let top : place b + 512 ≤ 0x70000000 = below (place b) a.stubs (length kept.nodes) a.stop (place_below decode_first x kept room b) (stubs_room decode_first x kept room) (stop_low decode_first x kept room plain) in
       let few : items_len its ≤ 12 = at_most (items_len its) (items_len whole) (length-trimmed f.following whole) (length-items_of kept.edges b n y) in
-      let spelled : AllSpelled at (place b) whole = spelled_items_of at (label_low decode_first x kept are.room plain) kept.edges b n _ b y s.spells (place b) (near (place b) top) next in
+      let spelled : AllSpelled at (place b) whole = spelled_items_of at (label_low decode_first x kept room plain) kept.edges b n _ b y s.spells (place b) (near (place b) top) next in
       let all : AllSpelled at (place b) its = spelled_trimmed at f.following (place b) whole spelled in
       let stand = items_stand new.mem at (place b) its bytes all (far (place b) (items_len its) top few) in
       fragment_stands decode_first kept.edges lay place new.mem at (λ c. refl) (λ c. refl) b n y f.following (place b + items_len its)
-      (λ c e. ap (λ l. place b + items_len l) (sym same) ∙ (f.next c e).1) next (place_in_code decode_first x kept are.room b node) stand
+      (λ c e. ap (λ l. place b + items_len l) (sym same) ∙ (f.next c e).1) next (place_in_code decode_first x kept room b node) stand
     where
       wrapped : (v : ℕ) → v ≤ 0x70000000 → wrap v < 2 ^ 32
       wrapped v h = omega arith
@@ -194,8 +194,8 @@ module _ (x : Image) (kept : Record) (parts : Parts) (entry : ℕ) (can : IsRewr
   stub_stops t b node runs code there =
       let p : ℕ = lay.stub b in
       let fill : List ℕ = replicate (a.stop - a.stubs - length (all_stubs kept.nodes)) 0xcc in
-      let bytes : BytesAt new.mem a.stubs (all_stubs kept.nodes ++ fill) = subst (BytesAt new.mem a.stubs) are.stubs stub_bytes in
-      let low : p + 2 < 2 ^ 64 = far p (label_low decode_first x kept are.room plain (label.Stub b)) in
+      let bytes : BytesAt new.mem a.stubs (all_stubs kept.nodes ++ fill) = subst (BytesAt new.mem a.stubs) are.parts_added.stubs stub_bytes in
+      let low : p + 2 < 2 ^ 64 = far p (label_low decode_first x kept room plain (label.Stub b)) in
       let stop : InsnAt decode_first new.mem p insn.Ud2 (p + 2) = insn_of_spelling new.mem p insn.Ud2 (stub_found new.mem a.stubs b kept.nodes fill node bytes) tt low in
       ap (λ u. u.end) (step_is decode_first new.mem p insn.Ud2 (p + 2) stop t runs there code ∙ ud2_is (p + 2) t)
     where

@@ -7,11 +7,11 @@ use Rattle.rz_machine.specs.declared.trace.Record.{Record}
 use Rattle.rz_machine.specs.Insn.{Decoder}
 use Rattle.rz_machine.specs.Elf.{Image}
 use Rattle.rz_machine.specs.Added.{Added, added, lowest, page_floor, all_stubs, index_of, sites, site_edges, tables_size, code_size, stubs_size}
-use Rattle.rz_machine.specs.WrittenFile.{Parts, stubs_part}
+use Rattle.rz_machine.specs.WrittenFile.{Parts, IsAdded, stubs_part}
 use Rattle.rz_machine.specs.Rewritable.{IsRewritable, has_node}
 use Rattle.rz_machine.specs.Fragments.{address_of}
 use Rattle.rz_machine.specs.PlainImage.{IsPlainImage}
-use Rattle.rz_machine.specs.Rewritten.{HasRoom, IsRewritten, fragments_of, place_of}
+use Rattle.rz_machine.specs.Rewritten.{HasRoom, fragments_of, place_of}
 use Rattle.rz_machine.proofs.Emitted.{total_len, place_low, place_from, total_most}
 use Rattle.rz_machine.proofs.Parts.{code_size_is, stubs_size_is, page_up-least, lowest_low, Lie, parts_lie, length-filled, length-all_stubs, index_low}
 
@@ -66,7 +66,7 @@ module _ (dec : Decoder) (x : Image) (kept : Record) (room : HasRoom dec x kept)
   label_low (label.Place b) = let h = place_below dec x kept room b in let k = stubs_room dec x kept room in let s = stop_low in omega (arith, h, k, s)
   label_low (label.Stub b) = let h = index_low kept.nodes b in let k = stubs_room dec x kept room in let s = stop_low in omega (arith, h, k, s)
 
-module _ (dec : Decoder) (x : Image) (kept : Record) (parts : Parts) (entry : ℕ) (are : IsRewritten dec x kept parts entry) where
+module _ (dec : Decoder) (x : Image) (kept : Record) (room : HasRoom dec x kept) (parts : Parts) (entry : ℕ) (are : IsAdded (added dec x kept) kept.nodes parts entry) where
   abbrev sites_len : ℕ
   sites_len = length (sites dec x.loads kept.nodes)
 
@@ -77,7 +77,7 @@ module _ (dec : Decoder) (x : Image) (kept : Record) (parts : Parts) (entry : �
   pub length-stubs_part : length parts.stubs ≡ (added dec x kept).stop - (added dec x kept).stubs
   length-stubs_part =
       let all : length (all_stubs kept.nodes) ≡ 24 * length kept.nodes = length-all_stubs kept.nodes in
-      let h : (added dec x kept).stubs + 24 * length kept.nodes ≤ (added dec x kept).stop = stubs_room dec x kept are.room in
+      let h : (added dec x kept).stubs + 24 * length kept.nodes ≤ (added dec x kept).stop = stubs_room dec x kept room in
       ap length are.stubs ∙ length-filled ((added dec x kept).stop - (added dec x kept).stubs) (all_stubs kept.nodes) (few (added dec x kept).stubs (added dec x kept).stop (length kept.nodes) (length (all_stubs kept.nodes)) all h)
     where
       few : (stubs stop n l : ℕ) → l ≡ 24 * n → stubs + 24 * n ≤ stop → l ≤ stop - stubs
@@ -87,8 +87,4 @@ module _ (dec : Decoder) (x : Image) (kept : Record) (parts : Parts) (entry : �
   pub lie : Lie (added dec x kept) parts.base (length parts.tables) (length parts.code) (length parts.stubs)
   lie =
       parts_lie (tables_size sites_len edges_len) (code_size (length kept.nodes) sites_len edges_len) (stubs_size (length kept.nodes)) (page_floor (lowest x.loads))
-      parts.base (length parts.tables) (length parts.code) (length parts.stubs) are.room are.base are.tables_long are.code_long length-stubs_part
-
-  -- the new entry lies in the code part
-  pub entry_in_code : has_node kept.nodes x.entry ≡ true → ((added dec x kept).code ≤ entry) × (entry < (added dec x kept).stubs)
-  entry_in_code e = let h = place_in_code dec x kept are.room x.entry e in let b = are.begins in (omega (arith, h.0, b), omega (arith, h.1, b))
+      parts.base (length parts.tables) (length parts.code) (length parts.stubs) room are.base are.tables are.code length-stubs_part
