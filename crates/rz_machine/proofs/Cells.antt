@@ -86,6 +86,16 @@ fetch_bytes m h a (suc n) = go (cell_at m a) (h a) (fetch_bytes m h (a + 1) n)
         by_execute true = (low, ih)
         by_execute false = tt
 
+-- where something is fetched, the first of it may be executed
+pub fetch_first : (m : Regions) (a n : ℕ) → 0 < length (fetch m a n) → (cell_at m a).execute ≡ true
+unfolding fetch
+fetch_first m a zero some = absurd (omega arith)
+fetch_first m a (suc n) some = go (cell_at m a).execute some
+  where
+    go : (e : Bool) → 0 < length (fetched (if e then Some (cell_at m a).byte else None) (fetch m (a + 1) n)) → e ≡ true
+    go true some = refl
+    go false some = absurd (omega arith)
+
 -- what is fetched lies below a bound of all that may be executed
 pub fetch_low : (m : Regions) (top : ℕ) → ((a : ℕ) → (cell_at m a).execute ≡ true → a < top) → (a n k : ℕ) → 0 < k → k ≤ length (fetch m a n) → a + k ≤ top
 unfolding fetch

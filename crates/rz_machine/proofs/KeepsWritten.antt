@@ -41,6 +41,7 @@ use Rattle.rz_machine.proofs.Trimmed.{spelled_trimmed, spelled_items_of, length-
 use Rattle.rz_machine.proofs.Emitted.{items, Found, found}
 use Rattle.rz_machine.proofs.Cells.{IsFixed, all_map, none_self_written, plain_cell, fetch_bytes, fetch_low}
 use Rattle.rz_machine.proofs.Images.{all_append, stripped_fixed, stripped_same, Whole, code_at, stubs_at, stop_at, code_there, stubs_there, beside, added_fixed}
+use Rattle.rz_machine.proofs.PlainNodes.{plain_fixed, Stands, stands}
 use Rattle.rz_machine.proofs.Parts.{Lie, stub_found}
 use Rattle.rz_machine.proofs.RewrittenLaws.{code_room, stubs_room, place_below, place_in_code, stop_low, label_low, lie}
 use Rattle.rz_machine.proofs.StartCode.{start_code}
@@ -55,31 +56,6 @@ first_regs-are input = set_regs (replicate 16 0) 4 _ (record { sixteen = refl; w
 
     zeros : AllByRecursion (λ v. v < 2 ^ 64) (replicate 16 0)
     zeros = let z = zero_word in (z, (z, (z, (z, (z, (z, (z, (z, (z, (z, (z, (z, (z, (z, (z, (z, tt))))))))))))))))
-
--- no region of a plain image is both written and executed
-pub plain_fixed : (m : Regions) → AllByRecursion IsPlainRegion m → AllByRecursion IsFixed m
-plain_fixed m = all_map IsPlainRegion IsFixed (λ r p. p.fixed) m
-
-module _ (x : Image) (plain : IsPlainImage x) where
-  -- what stands at a node of a plain image
-  record Stands (b : ℕ) (y : Insn) (len : ℕ) : Type 0 where
-    spelled : spelled_at decode_first x.loads b ≡ decoded.Insn y len
-    named : IsNamed y
-    spells : Spells (take len (fetch x.loads b 15)) b y
-    low : b + len ≤ 0x70000000
-
-  stands : (b : ℕ) (y : Insn) (len : ℕ) → spelled_at decode_first x.loads b ≡ decoded.Insn y len → Stands b y len
-  stands b y len e =
-      let bs : List ℕ = fetch x.loads b 15 in
-      let bytes : AllByRecursion (λ v. v < 256) bs = fetch_bytes x.loads (λ c. (plain_cell x.loads plain c).0) b 15 in
-      let P : Decoded → Type 0 = λ d. NamesInsn d (length bs) in
-      let fit = subst P e (names_insns bs b bytes) in
-      record {
-        spelled = e;
-        named = fit.0;
-        spells = spelled_where_decoded bs b bytes y len e;
-        low = fetch_low x.loads 0x70000000 (λ c. (plain_cell x.loads plain c).1) b 15 len (omega (arith, fit.1)) fit.3;
-      }
 
 module _ (x : Image) (kept : Record) (parts : Parts) (entry : ℕ) (can : IsRewritable decode_first x kept) (plain : IsPlainImage x) (room : HasRoom decode_first x kept) (are : IsRewritten decode_first x kept parts entry) (input : Input) where
   abbrev a : Added

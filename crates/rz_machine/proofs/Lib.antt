@@ -24,3 +24,4 @@ pub mod MemoryTurns
 pub mod Parts
 pub mod KeepsWritten
 pub mod RewrittenLaws
+pub mod PlainNodes
