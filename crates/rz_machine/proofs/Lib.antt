@@ -25,3 +25,4 @@ pub mod Parts
 pub mod KeepsWritten
 pub mod RewrittenLaws
 pub mod PlainNodes
+pub mod ThinKept
