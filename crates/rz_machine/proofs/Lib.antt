@@ -26,3 +26,4 @@ pub mod KeepsWritten
 pub mod RewrittenLaws
 pub mod PlainNodes
 pub mod ThinKept
+pub mod PlainAccepted

@@ -7,7 +7,7 @@ use Rattle.rz_machine.specs.declared.sys.Input.{Input}
 use Rattle.rz_machine.specs.declared.trace.Record.{Record}
 use Rattle.rz_machine.specs.Memory.{no_cell, contains, cell_in, cell_at}
 use Rattle.rz_machine.specs.First.{decode_first}
-use Rattle.rz_machine.specs.Elf.{Image, image_of}
+use Rattle.rz_machine.specs.Elf.{Image, image_of, fault_of}
 use Rattle.rz_machine.specs.Added.{Added, added, layout_of, code_size, stubs_size, sites, site_edges}
 use Rattle.rz_machine.specs.WrittenFile.{Parts, IsAdded, new_image, written_file, Inert}
 use Rattle.rz_machine.specs.Start.{IsValid, start}
@@ -17,24 +17,11 @@ use Rattle.rz_machine.specs.Rewritable.{IsRewritable, IsAscending, has_node}
 use Rattle.rz_machine.specs.PlainImage.{IsPlainImage, IsPlainRegion}
 use Rattle.rz_machine.specs.Rewritten.{HasRoom, IsRewritten, ThinFilesKept, ThinFilesHaveRoom}
 use Rattle.rz_machine.proofs.PlainNodes.{Stands, stands}
-use Rattle.rz_machine.proofs.ThinLaws.{code_region, code_image, drop-thin_file, thin_image}
+use Rattle.rz_machine.proofs.ThinLaws.{code_region, code_image, thin_image, thin_accepted}
+use Rattle.rz_machine.proofs.PlainAccepted.{accepted_plain}
 use Rattle.rz_machine.proofs.WrittenLaws.{PartsFit, written_image}
 use Rattle.rz_machine.proofs.AddedLaws.{sites-first, site_edges-first, thin_added, added-thin, parts_fit, inert_of}
 use Rattle.rz_machine.proofs.KeepsWritten.{keeps_written}
-
--- bytes from a place on
-all_drop : (P : ℕ → Type 0) (n : ℕ) (bs : List ℕ) → AllByRecursion P bs → AllByRecursion P (drop n bs)
-all_drop P zero bs h = h
-all_drop P (suc n) [] h = h
-all_drop P (suc n) (b ∷ bs) h = all_drop P n bs h.1
-
--- the code of a thin file is of bytes, as the file is
-code_bytes : (code : List ℕ) → AllByRecursion (λ b. b < 256) (thin_file code) → AllByRecursion (λ b. b < 256) code
-code_bytes code h = subst (AllByRecursion (λ b. b < 256)) (drop-thin_file code) (all_drop (λ b. b < 256) 4096 (thin_file code) h)
-
--- the code alone is a plain image
-code_plain : (code : List ℕ) → length code ≤ 65536 → AllByRecursion (λ b. b < 256) code → IsPlainImage (code_image code)
-code_plain code few h = (record { fixed = λ e. absurd (cc); low = omega arith; bytes = h }, tt)
 
 or_true : (b : Bool) → (b || true) ≡ true
 or_true true = refl
@@ -72,12 +59,12 @@ executed_in_code code b e = go (contains (code_region code) b) refl e
         (leb-true thin_base b p.0, ltb-true b (thin_base + length code) p.1)
     go false f e = absurd (cc)
 
-module _ (code : List ℕ) (some : 1 ≤ length code) (few : length code ≤ 65536) (bytes : AllByRecursion (λ b. b < 256) code) (kept : Record) (can : IsRewritable decode_first (code_image code) kept) where
+module _ (code : List ℕ) (some : 1 ≤ length code) (few : length code ≤ 65536) (plain : IsPlainImage (code_image code)) (kept : Record) (can : IsRewritable decode_first (code_image code) kept) where
   nodes_few : length kept.nodes ≤ 65536
   nodes_few =
       let inside : AllByRecursion (λ b. (thin_base ≤ b) × (b < thin_base + length code)) kept.nodes =
           all_members (λ b. (thin_base ≤ b) × (b < thin_base + length code)) kept.nodes
-          (λ b e. let n = can.nodes b e in executed_in_code code b (stands (code_image code) (code_plain code few bytes) b n.insn n.len n.spelled).first) in
+          (λ b e. let n = can.nodes b e in executed_in_code code b (stands (code_image code) plain b n.insn n.len n.spelled).first) in
       omega (arith, few_ascending thin_base (thin_base + length code) kept.nodes can.ascending inside)
 
   nodes_some : 1 ≤ length kept.nodes
@@ -95,19 +82,13 @@ module _ (code : List ℕ) (some : 1 ≤ length code) (few : length code ≤ 655
       fits : (n : ℕ) → n ≤ 65536 → 4096 + 4096 + code_size n 0 0 + stubs_size n ≤ 0x401000
       fits n h = omega arith
 
--- an image that is loaded of a thin file of bytes is plain
+-- what is loaded of a thin file of bytes is plain
 thin_plain : (x : List ℕ) → IsThin x → AllByRecursion (λ b. b < 256) x → IsPlainImage (image_of x)
-thin_plain x thin bytes = subst P (sym thin.file) of_code bytes
-  where
-    P : List ℕ → Type 0
-    P y = AllByRecursion (λ b. b < 256) y → IsPlainImage (image_of y)
-
-    of_code : P (thin_file thin.code)
-    of_code h = subst IsPlainImage (sym (thin_image thin.code thin.some thin.few)) (code_plain thin.code thin.few (code_bytes thin.code h))
+thin_plain x thin bytes = accepted_plain x bytes (ap fault_of thin.file ∙ thin_accepted thin.code thin.some thin.few)
 
 -- a thin file's kept nodes and their room
 pub thin_room : ThinFilesHaveRoom decode_first
-thin_room x kept thin bytes can = subst P (sym thin.file) of_code bytes can
+thin_room x kept thin bytes can = subst P (sym thin.file) of_code (thin_plain x thin bytes) can
   where
     code : List ℕ
     code = thin.code
@@ -116,14 +97,14 @@ thin_room x kept thin bytes can = subst P (sym thin.file) of_code bytes can
     Holds i = (1 ≤ length kept.nodes) × (length kept.nodes ≤ 65536) × HasRoom decode_first i kept
 
     P : List ℕ → Type 0
-    P y = AllByRecursion (λ b. b < 256) y → IsRewritable decode_first (image_of y) kept → Holds (image_of y)
+    P y = IsPlainImage (image_of y) → IsRewritable decode_first (image_of y) kept → Holds (image_of y)
 
     of_code : P (thin_file code)
     of_code h c =
         let e : image_of (thin_file code) ≡ code_image code = thin_image code thin.some thin.few in
-        let bs = code_bytes code h in
+        let plain : IsPlainImage (code_image code) = subst IsPlainImage e h in
         let d : IsRewritable decode_first (code_image code) kept = subst (λ i. IsRewritable decode_first i kept) e c in
-        let holds : Holds (code_image code) = (nodes_some code thin.some thin.few bs kept d, nodes_few code thin.some thin.few bs kept d, room code thin.some thin.few bs kept d) in
+        let holds : Holds (code_image code) = (nodes_some code thin.some thin.few plain kept d, nodes_few code thin.some thin.few plain kept d, room code thin.some thin.few plain kept d) in
         subst Holds (sym e) holds
 
 -- what is loaded of the file that is written for a thin file
