@@ -1,7 +1,8 @@
 // Files in memory, as a list of names and contents.
 
-ghost use Rattle.std.specs.Prelude.{◌≡◌, ℕ, List, OnOk, OnErr, IfSome, IfNone, Some, None, take, position, bytes_eq};
-ghost use Rattle.rz_outside.specs.Entries.{contents_of};
+ghost use Rattle.std.specs.Prelude.{◌≡◌, ℕ, List, OnOk, OnErr, IfSome, IfNone, Some, None, take, position, bytes_eq, IsTrue, ◌↔◌};
+ghost use Rattle.std.specs.List.{list_any};
+ghost use Rattle.rz_outside.specs.Entries.{contents_of, HasDistinctNames};
 ghost use Rattle.rz_outside.specs.StoreAnswers.{SameOthers};
 
 use rz_num::{Bytes, OutOfMemory, Text};
@@ -60,6 +61,25 @@ impl Entries {
         }
         Ok(())
     }
+}
+
+/// Whether no name is given twice, as the stores in memory require.
+pub fn has_distinct_names(files: &[(Text, Bytes)]) -> bool
+    ensures { IsTrue result ↔ HasDistinctNames files.now }
+{
+    for (at, (name, _)) in files.iter().enumerate() {
+        if is_listed(name.as_slice(), &files[at + 1..]) {
+            return false;
+        }
+    }
+    true
+}
+
+// Whether a name has an entry.
+fn is_listed(name: &str, files: &[(Text, Bytes)]) -> bool
+    ensures { result ≡ list_any (λ entry. bytes_eq name.now entry.0) files.now }
+{
+    files.iter().any(|(key, _)| name == key.as_slice())
 }
 
 /// The first bytes of a slice, at most `max`.

@@ -14,6 +14,7 @@ mod stores;
 mod transfer;
 
 pub use dir_store::DirStore;
+pub use entry_list::has_distinct_names;
 pub use mem_sink::MemSink;
 pub use mem_store::MemStore;
 pub use out_sink::OutSink;
@@ -21,3 +22,6 @@ pub use plain_sink::PlainSink;
 pub use plain_store::PlainStore;
 pub use sinks::{PutErr, Sink};
 pub use stores::{ReadErr, Store, WriteErr};
+
+#[cfg(test)]
+mod tests;
