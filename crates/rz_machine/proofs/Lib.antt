@@ -1,1 +1,3 @@
 pub mod MemoryTurns
+pub mod Calls
+pub mod Runs
