@@ -19,3 +19,4 @@ pub mod TableLaws
 pub mod FirstLaws
 pub mod Left
 pub mod Ran
+pub mod Loaded
