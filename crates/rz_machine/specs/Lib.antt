@@ -20,3 +20,4 @@ pub mod FirstLaws
 pub mod Left
 pub mod Ran
 pub mod Loaded
+pub mod ThinPage

@@ -5,6 +5,7 @@ ghost use Rattle.std.specs.List.{list_all};
 ghost use Rattle.rz_machine.specs.WrittenFile.{segment_bytes};
 ghost use Rattle.rz_machine.specs.Thin.{IsThin, thin_header, thin_segment};
 ghost use Rattle.rz_machine.specs.Loaded.{IsLoadable, thin_elf, thin_load};
+ghost use Rattle.rz_machine.specs.ThinPage.{has_thin_page};
 
 use crate::elf::{Elf, ElfError, ElfFault, Load, Loads};
 use crate::memory::Perm;
@@ -31,10 +32,11 @@ pub fn read_thin(alloc: Global, bytes: Bytes) -> Result<Elf, ElfError>
     ensures unbuilt { IsErrOf result (ElfError.Fault ElfFault.Unbuilt) ↔ (¬ IsThin bytes) }
     ensures only { IfErr result (λ e. (e ≡ ElfError.Fault ElfFault.Unbuilt) ⊎ (e ≡ ElfError.OutOfMemory)) }
 {
-    if !is_thin(bytes.as_slice()) {
+    let file = bytes.as_slice();
+    if !is_thin(file) {
         return Err(ElfError::Fault(ElfFault::Unbuilt));
     }
-    let size = (bytes.as_slice().len() - CODE_AT) as u64;
+    let size = (file.len() - CODE_AT) as u64;
     let loads = thin_loads(alloc, size)?;
     Ok(Elf {
         bytes,
@@ -67,14 +69,27 @@ fn thin_loads(alloc: Global, size: u64) -> Result<Loads, OutOfMemory>
 
 /// Whether a file is thin.
 pub fn is_thin(bytes: &[u8]) -> bool
-    ensures { IsTrue result ↔ IsThin bytes.now }
+    ensures thin { IsTrue result ↔ IsThin bytes.now }
+    ensures some { IsTrue result → 4096 < length bytes.now }
+    ensures few { IsTrue result → length bytes.now ≤ 69632 }
 {
-    if bytes.len() <= CODE_AT || bytes.len() > CODE_AT + MOST_CODE {
+    if bytes.len() <= CODE_AT {
         return false;
     }
+    if bytes.len() > CODE_AT + MOST_CODE {
+        return false;
+    }
+    has_header_page(bytes)
+}
+
+// Whether the first page is that of a thin file of this length.
+fn has_header_page(bytes: &[u8]) -> bool
+    requires { 4096 < length bytes.now }
+    ensures { result ≡ has_thin_page bytes.now }
+{
     let size = (bytes.len() - CODE_AT) as u64;
-    bytes[..64] == file_header()[..]
-        && bytes[64..120] == program_header(size)[..]
+    bytes.starts_with(&file_header())
+        && bytes[64..].starts_with(&program_header(size))
         && are_zeros(&bytes[120..CODE_AT])
 }
 
