@@ -15,11 +15,14 @@ use std::alloc::Global;
 
 // The stack's address and size in bytes, and the size of the heap.
 const STACK_AT: u64 = 0x7fff_ffef_f000;
+
 const STACK_SIZE: u64 = 0x10_0000;
+
 const HEAP_SIZE: u64 = 0x100_0000;
 
 // RSP, and where it stands with no arguments.
 const RSP: usize = 4;
+
 const FIRST_RSP: u64 = 0x7fff_ffff_efd0;
 
 const READ_WRITE: Perm = Perm {
