@@ -4,10 +4,13 @@
 pub mod call;
 pub mod decode;
 pub mod elf;
+pub mod elf_law;
+pub mod elf_write;
 pub mod first;
 pub mod flags;
 pub mod insn;
 pub mod items;
+pub mod law;
 pub mod kinds;
 pub mod machine;
 pub mod memory;
