@@ -16,3 +16,8 @@ pub mod StartCode
 pub mod TraceLaws
 pub mod RecordedLaws
 pub mod MemoryTurns
+pub mod Calls
+pub mod RunTurns
+pub mod Zeros
+pub mod ThinFiles
+pub mod Loads
