@@ -6,3 +6,4 @@ pub mod StartCode
 pub mod TraceLaws
 pub mod RecordedLaws
 pub mod MemoryTurns
+pub mod TraceTurns

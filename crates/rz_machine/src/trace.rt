@@ -1,14 +1,19 @@
 //! What runs used: the addresses of the instructions that they began, and the pairs of neighbours.
 
-ghost use Rattle.std.specs.Prelude.{◌≡◌, ℕ, List, [], not, length, OnOk, OnErr, IfOk};
+ghost use Rattle.std.specs.Prelude.{◌≡◌, ◌⊎◌, ℕ, List, [], not, length, None, OnOk, OnErr, IfOk, IfErr};
 ghost use Rattle.std.specs.Ordering.{nat_cmp};
 ghost use Rattle.std.specs.BTreeSet.{insert_key};
 ghost use Rattle.std.specs.List.Sorted.{IsStrictlySortedBy};
+ghost use Rattle.rz_machine.specs.LeftCode.{left_at, StaysInCode};
+ghost use Rattle.rz_machine.specs.Traced.{with_run, IsRefused};
 
+use crate::machine::{End, Machine};
+use crate::table::InsnTable;
 use rz_num::{OutOfMemory, Pairs, Words};
 use std::alloc::Global;
 use std::collections::BTreeSet;
 use std::marker::Model;
+use thiserror::Error;
 
 /// Addresses, each once, in ascending order.
 #[derive(Drop)]
@@ -135,6 +140,8 @@ pub struct Record {
 }
 
 impl Record {
+    ghost use Rattle.rz_machine.specs.Traced.{with_begun};
+
     /// The record of no nodes and no edges. It takes no memory.
     pub fn new(alloc: Global) -> Record
         ensures { result ≡ record { nodes = []; edges = [] } }
@@ -144,4 +151,76 @@ impl Record {
             edges: EdgeSet::new(alloc),
         }
     }
+
+    // Adds an instruction that was begun, and the edge from the one begun before it.
+    fn add(&mut self, last: Option<u64>, at: u64) -> Result<(), OutOfMemory>
+        ensures ok { OnOk result (self.new ≡ with_begun self.old last at) }
+        ensures edges { OnErr result (self.new.edges ≡ self.old.edges) }
+        ensures nodes { OnErr result ((self.new.nodes ≡ self.old.nodes) ⊎ (self.new.nodes ≡ insert_key nat_cmp self.old.nodes at)) }
+    {
+        self.nodes.insert(at)?;
+        if let Some(from) = last {
+            self.edges.insert((from, at))?;
+        }
+        Ok(())
+    }
+}
+
+/// Why a run wasn't traced to its limit.
+#[derive(Debug, Drop, Error)]
+pub enum TraceRefusal {
+    /// The run came to this address, where no instruction of the file is spelled.
+    #[error("left code {0}")]
+    LeftCode(u64),
+    #[error("out of memory")]
+    OutOfMemory,
+}
+
+impl From<OutOfMemory> for TraceRefusal {
+    ghost use Rattle.std.specs.Prelude.{◌≡◌};
+    ghost use Rattle.rz_machine.specs.declared.trace.TraceRefusal.TheVariants.{OutOfMemory};
+
+    ghost from_gives = { λ _ e. e ≡ OutOfMemory };
+
+    fn from(_: OutOfMemory) -> TraceRefusal {
+        TraceRefusal::OutOfMemory
+    }
+}
+
+// The address where a run found no instruction, if it ended so.
+fn address_left(end: Option<End>) -> Option<u64>
+    ensures { result ≡ left_at end }
+{
+    match end {
+        Some(End::Fetch(at)) | Some(End::Unknown(at)) => Some(at),
+        _ => None,
+    }
+}
+
+// Adds the nodes and the edges of the first `limit` steps of a machine.
+fn follow<T: InsnTable>(
+    alloc: Global,
+    mut machine: Machine,
+    limit: u64,
+    rec: &mut Record,
+) -> Result<(), TraceRefusal>
+    requires { left_at machine.end ≡ None }
+    ensures ok { OnOk result (rec.new ≡ with_run T.decoder limit machine rec.old) }
+    ensures stays { OnOk result (StaysInCode T.decoder limit machine) }
+    ensures err { IfErr result (IsRefused T.decoder limit machine rec.old rec.new) }
+{
+    let mut last = None;
+    for _ in 0..limit {
+        if machine.end.is_some() {
+            return Ok(());
+        }
+        let at = machine.cpu.rip;
+        machine.step::<T>(alloc)?;
+        if let Some(left) = address_left(machine.end) {
+            return Err(TraceRefusal::LeftCode(left));
+        }
+        rec.add(last, at)?;
+        last = Some(at);
+    }
+    Ok(())
 }

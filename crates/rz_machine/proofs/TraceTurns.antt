@@ -1,0 +1,129 @@
+-- One more step of a run that is traced.
+use Rattle.std.proofs.Common.{◌≡◌, ℕ, zero, suc, ◌+◌, ◌-◌, ◌<◌, ◌≤◌, ◌⊎◌, inl, inr, ⊎_elim, List, [], ◌∷◌, ◌++◌, Option, Some, None, refl, sym, ap, ap₂, ◌∙◌, subst, arith, add-one}
+use Rattle.std.proofs.lemmas.List.{append_assoc, append-nil}
+use Rattle.std.proofs.lemmas.List.Sums.{fold-append}
+use Rattle.std.specs.Ordering.{nat_cmp}
+use Rattle.std.specs.BTreeSet.{insert_key}
+use Rattle.rz_machine.specs.declared.machine.End.{End}
+use Rattle.rz_machine.specs.declared.machine.End.TheVariants as end
+use Rattle.rz_machine.specs.declared.machine.Machine.{Machine}
+use Rattle.rz_machine.specs.declared.trace.Record.{Record}
+use Rattle.rz_machine.specs.Insn.{Decoder}
+use Rattle.rz_machine.specs.State.{step, after, decoded_at}
+use Rattle.rz_machine.specs.Begun.{begun_by, begun_at, begun, neighbours, pair_cmp, with_nodes, with_edges}
+use Rattle.rz_machine.specs.LeftCode.{left_at, LeavesCode, StaysInCode}
+use Rattle.rz_machine.specs.Traced.{with_run, HasPart, edge_from, with_begun}
+use Rattle.rz_machine.proofs.TraceLaws.{begins, begins_nothing, begun_none, begun_ended}
+use Rattle.rz_machine.proofs.RecordedLaws.{after_suc, ended_later}
+
+-- the instruction begun last
+abbrev pub last_of : List ℕ → Option ℕ
+last_of [] = None
+last_of (a ∷ []) = Some a
+last_of (a ∷ b ∷ rest) = last_of (b ∷ rest)
+
+last_of-push : (xs : List ℕ) (a : ℕ) → last_of (xs ++ a ∷ []) ≡ Some a
+last_of-push [] a = refl
+last_of-push (x ∷ []) a = refl
+last_of-push (x ∷ y ∷ rest) a = last_of-push (y ∷ rest) a
+
+neighbours-push : (xs : List ℕ) (a : ℕ) → neighbours (xs ++ a ∷ []) ≡ neighbours xs ++ edge_from (last_of xs) a
+neighbours-push [] a = refl
+neighbours-push (x ∷ []) a = refl
+neighbours-push (x ∷ y ∷ rest) a = ap (λ l. (x, y) ∷ l) (neighbours-push (y ∷ rest) a)
+
+-- the first n steps and one more
+pub begun_suc : (dec : Decoder) (n : ℕ) (s : Machine) → begun dec (suc n) s ≡ begun dec n s ++ begun_at dec (after dec n s)
+unfolding begun after
+begun_suc dec zero s = append-nil (begun_at dec s)
+begun_suc dec (suc n) s = ap (λ l. begun_at dec s ++ l) (begun_suc dec n (step dec s)) ∙ sym (append_assoc (begun_at dec s) (begun dec n (step dec s)) (begun_at dec (after dec n (step dec s))))
+
+-- a run whose next step begins nothing has begun all that it begins
+pub begun_stops : (dec : Decoder) (i n : ℕ) (s : Machine) → i ≤ n → begun_at dec (after dec i s) ≡ [] → begun dec n s ≡ begun dec i s
+unfolding begun after
+begun_stops dec zero n s le h = begun_none dec n s h
+begun_stops dec (suc i) zero s le h = absurd (omega arith)
+begun_stops dec (suc i) (suc n) s le h = ap (λ l. begun_at dec s ++ l) (begun_stops dec i n (step dec s) (omega arith) h)
+
+-- a run added to a record, when the next step begins nothing
+pub run_stops : (dec : Decoder) (i n : ℕ) (s : Machine) (kept : Record) → i ≤ n → begun_at dec (after dec i s) ≡ [] → with_run dec n s kept ≡ with_run dec i s kept
+unfolding with_run
+run_stops dec i n s kept le h = ap (λ l. record { nodes = with_nodes kept.nodes l; edges = with_edges kept.edges (neighbours l) }) (begun_stops dec i n s le h)
+
+with_run_turn : (dec : Decoder) (i : ℕ) (s : Machine) (kept : Record) (at : ℕ) → begun_at dec (after dec i s) ≡ at ∷ [] → with_begun (with_run dec i s kept) (last_of (begun dec i s)) at ≡ with_run dec (suc i) s kept
+unfolding with_run
+with_run_turn dec i s kept at h =
+    let list = begun dec i s in
+    let more : begun dec (suc i) s ≡ list ++ at ∷ [] = begun_suc dec i s ∙ ap (λ l. list ++ l) h in
+    let nodes : with_nodes kept.nodes (list ++ at ∷ []) ≡ insert_key nat_cmp (with_nodes kept.nodes list) at = fold-append (insert_key nat_cmp) kept.nodes list (at ∷ []) in
+    let edges : with_edges kept.edges (neighbours (list ++ at ∷ [])) ≡ with_edges (with_edges kept.edges (neighbours list)) (edge_from (last_of list) at) =
+        ap (with_edges kept.edges) (neighbours-push list at) ∙ fold-append (insert_key pair_cmp) kept.edges (neighbours list) (edge_from (last_of list) at) in
+    let P : List ℕ → Record = λ l. record { nodes = with_nodes kept.nodes l; edges = with_edges kept.edges (neighbours l) } in
+    ap₂ (λ (ns : List ℕ) (es : List (ℕ × ℕ)). let r : Record = record { nodes = ns; edges = es } in r) (sym nodes) (sym edges) ∙ ap P (sym more)
+
+-- a machine, a record and the last instruction begun after i steps of a run that hasn't left the code
+pub record Followed (dec : Decoder) (i : ℕ) (s : Machine) (old : Record) (now : Machine) (kept : Record) (last : Option ℕ) : Type 0 where
+  pub at : now ≡ after dec i s
+  pub stays : left_at now.end ≡ None
+  pub holds : kept ≡ with_run dec i s old
+  pub before : last ≡ last_of (begun dec i s)
+
+pub Followed-start : (dec : Decoder) (s : Machine) (old : Record) → left_at s.end ≡ None → Followed dec 0 s old s old None
+unfolding after with_run begun
+Followed-start dec s old h = record { at = refl; stays = h; holds = refl; before = refl }
+
+pub Followed-turn : (dec : Decoder) (i : ℕ) (s : Machine) (old : Record) (now : Machine) (kept : Record) (last : Option ℕ)
+    → Followed dec i s old now kept last → now.end ≡ None → left_at (step dec now).end ≡ None
+    → Followed dec (i + 1) s old (step dec now) (with_begun kept last now.cpu.rip) (Some now.cpu.rip)
+Followed-turn dec i s old now kept last f running stays =
+    rw add-one (record {
+      at = ap (step dec) f.at ∙ sym (after_suc dec i s);
+      stays = stays;
+      holds = ap₂ (λ r l. with_begun r l now.cpu.rip) f.holds f.before ∙ with_run_turn dec i s old now.cpu.rip one;
+      before = sym (ap last_of (begun_suc dec i s ∙ ap (λ l. begun dec i s ++ l) one) ∙ last_of-push (begun dec i s) now.cpu.rip);
+    })
+  where
+    one : begun_at dec (after dec i s) ≡ now.cpu.rip ∷ []
+    one = ap (begun_at dec) (sym f.at) ∙ begins dec now running stays
+
+-- after all steps
+pub Followed-all : (dec : Decoder) (n : ℕ) (s : Machine) (old : Record) (now : Machine) (kept : Record) (last : Option ℕ)
+    → Followed dec n s old now kept last → StaysInCode dec n s × (kept ≡ with_run dec n s old)
+Followed-all dec n s old now kept last f = (ap (λ t. left_at t.end) (sym f.at) ∙ f.stays, f.holds)
+
+-- where the run has ended
+pub Followed-ended : (dec : Decoder) (i n : ℕ) (s : Machine) (old : Record) (now : Machine) (kept : Record) (last : Option ℕ) (why : End)
+    → Followed dec i s old now kept last → i ≤ n → now.end ≡ Some why → StaysInCode dec n s × (kept ≡ with_run dec n s old)
+Followed-ended dec i n s old now kept last why f le e =
+    let ended : (after dec i s).end ≡ Some why = ap (λ t. t.end) (sym f.at) ∙ e in
+    let nothing : begun_at dec (after dec i s) ≡ [] = ap (λ o. begun_by o (decoded_at dec (after dec i s)) (after dec i s).cpu.rip) ended in
+    (ap left_at (ended_later dec i n s why le ended ∙ sym e) ∙ f.stays, f.holds ∙ sym (run_stops dec i n s old le nothing))
+
+left_end : (o : Option End) (a : ℕ) → left_at o ≡ Some a → (why : End) × (o ≡ Some why)
+left_end None a h = cc
+left_end (Some why) a h = (why, refl)
+
+-- where the next step leaves the code
+pub Followed-left : (dec : Decoder) (i n : ℕ) (s : Machine) (old : Record) (now : Machine) (kept : Record) (last : Option ℕ) (a : ℕ)
+    → Followed dec i s old now kept last → i < n → now.end ≡ None → left_at (step dec now).end ≡ Some a → LeavesCode dec n s a × (kept ≡ with_run dec n s old)
+Followed-left dec i n s old now kept last a f lt running left =
+    let next : step dec now ≡ after dec (suc i) s = ap (step dec) f.at ∙ sym (after_suc dec i s) in
+    let ended = left_end (step dec now).end a left in
+    let over : (after dec n s).end ≡ Some ended.0 = ended_later dec (suc i) n s ended.0 (omega arith) (ap (λ t. t.end) (sym next) ∙ ended.1) in
+    let nothing : begun_at dec (after dec i s) ≡ [] = ap (begun_at dec) (sym f.at) ∙ begins_nothing dec now a running left in
+    (ap left_at (over ∙ sym ended.1) ∙ left, f.holds ∙ sym (run_stops dec i n s old (omega arith) nothing))
+
+-- where there is no memory for the step, or for its edge
+pub Followed-part : (dec : Decoder) (i n : ℕ) (s : Machine) (old : Record) (now : Machine) (kept : Record) (last : Option ℕ)
+    → Followed dec i s old now kept last → i ≤ n → HasPart dec n s old kept
+unfolding with_run
+Followed-part dec i n s old now kept last f le =
+    record { node_steps = i; edge_steps = i; few = (le, le); nodes = ap (λ r. r.nodes) f.holds; edges = ap (λ r. r.edges) f.holds }
+
+pub Followed-node : (dec : Decoder) (i n : ℕ) (s : Machine) (old : Record) (now : Machine) (kept new : Record) (last : Option ℕ)
+    → Followed dec i s old now kept last → i < n → now.end ≡ None → left_at (step dec now).end ≡ None
+    → new.nodes ≡ insert_key nat_cmp kept.nodes now.cpu.rip → new.edges ≡ kept.edges → HasPart dec n s old new
+unfolding with_run
+Followed-node dec i n s old now kept new last f lt running stays nodes edges =
+    let turned = (Followed-turn dec i s old now kept last f running stays).holds in
+    record { node_steps = i + 1; edge_steps = i; few = (omega arith, omega arith); nodes = nodes ∙ ap (λ r. r.nodes) turned; edges = edges ∙ ap (λ r. r.edges) f.holds }
