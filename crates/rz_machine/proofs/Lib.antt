@@ -7,3 +7,5 @@ pub mod TraceLaws
 pub mod RecordedLaws
 pub mod MemoryTurns
 pub mod TraceTurns
+pub mod Calls
+pub mod Runs
