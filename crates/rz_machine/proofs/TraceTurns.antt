@@ -1,5 +1,5 @@
 -- One more step of a run that is traced.
-use Rattle.std.proofs.Common.{◌≡◌, ℕ, zero, suc, ◌+◌, ◌-◌, ◌<◌, ◌≤◌, ◌⊎◌, inl, inr, ⊎_elim, List, [], ◌∷◌, ◌++◌, Option, Some, None, refl, sym, ap, ap₂, ◌∙◌, subst, arith, add-one}
+use Rattle.std.proofs.Common.{◌≡◌, ℕ, zero, suc, ◌+◌, ◌-◌, ◌<◌, ◌≤◌, ◌⊎◌, inl, inr, ⊎_elim, true, false, List, [], ◌∷◌, ◌++◌, Option, Some, None, is_some, refl, sym, ap, ap₂, ◌∙◌, subst, arith, add-one}
 use Rattle.std.proofs.lemmas.List.{append_assoc, append-nil}
 use Rattle.std.proofs.lemmas.List.Sums.{fold-append}
 use Rattle.std.specs.Ordering.{nat_cmp}
@@ -68,62 +68,74 @@ pub record Followed (dec : Decoder) (i : ℕ) (s : Machine) (old : Record) (now 
   pub holds : kept ≡ with_run dec i s old
   pub before : last ≡ last_of (begun dec i s)
 
-pub Followed-start : (dec : Decoder) (s : Machine) (old : Record) → left_at s.end ≡ None → Followed dec 0 s old s old None
-unfolding after with_run begun
-Followed-start dec s old h = record { at = refl; stays = h; holds = refl; before = refl }
+some_of : (o : Option End) → is_some o ≡ true → (why : End) × (o ≡ Some why)
+some_of None h = cc
+some_of (Some why) h = (why, refl)
 
-pub Followed-turn : (dec : Decoder) (i : ℕ) (s : Machine) (old : Record) (now : Machine) (kept : Record) (last : Option ℕ)
-    → Followed dec i s old now kept last → now.end ≡ None → left_at (step dec now).end ≡ None
-    → Followed dec (i + 1) s old (step dec now) (with_begun kept last now.cpu.rip) (Some now.cpu.rip)
-Followed-turn dec i s old now kept last f running stays =
-    rw add-one (record {
-      at = ap (step dec) f.at ∙ sym (after_suc dec i s);
-      stays = stays;
-      holds = ap₂ (λ r l. with_begun r l now.cpu.rip) f.holds f.before ∙ with_run_turn dec i s old now.cpu.rip one;
-      before = sym (ap last_of (begun_suc dec i s ∙ ap (λ l. begun dec i s ++ l) one) ∙ last_of-push (begun dec i s) now.cpu.rip);
-    })
-  where
-    one : begun_at dec (after dec i s) ≡ now.cpu.rip ∷ []
-    one = ap (begun_at dec) (sym f.at) ∙ begins dec now running stays
-
--- after all steps
-pub Followed-all : (dec : Decoder) (n : ℕ) (s : Machine) (old : Record) (now : Machine) (kept : Record) (last : Option ℕ)
-    → Followed dec n s old now kept last → StaysInCode dec n s × (kept ≡ with_run dec n s old)
-Followed-all dec n s old now kept last f = (ap (λ t. left_at t.end) (sym f.at) ∙ f.stays, f.holds)
-
--- where the run has ended
-pub Followed-ended : (dec : Decoder) (i n : ℕ) (s : Machine) (old : Record) (now : Machine) (kept : Record) (last : Option ℕ) (why : End)
-    → Followed dec i s old now kept last → i ≤ n → now.end ≡ Some why → StaysInCode dec n s × (kept ≡ with_run dec n s old)
-Followed-ended dec i n s old now kept last why f le e =
-    let ended : (after dec i s).end ≡ Some why = ap (λ t. t.end) (sym f.at) ∙ e in
-    let nothing : begun_at dec (after dec i s) ≡ [] = ap (λ o. begun_by o (decoded_at dec (after dec i s)) (after dec i s).cpu.rip) ended in
-    (ap left_at (ended_later dec i n s why le ended ∙ sym e) ∙ f.stays, f.holds ∙ sym (run_stops dec i n s old le nothing))
+none_of : (o : Option End) → is_some o ≡ false → o ≡ None
+none_of None h = refl
+none_of (Some why) h = cc
 
 left_end : (o : Option End) (a : ℕ) → left_at o ≡ Some a → (why : End) × (o ≡ Some why)
 left_end None a h = cc
 left_end (Some why) a h = (why, refl)
 
--- where the next step leaves the code
-pub Followed-left : (dec : Decoder) (i n : ℕ) (s : Machine) (old : Record) (now : Machine) (kept : Record) (last : Option ℕ) (a : ℕ)
-    → Followed dec i s old now kept last → i < n → now.end ≡ None → left_at (step dec now).end ≡ Some a → LeavesCode dec n s a × (kept ≡ with_run dec n s old)
-Followed-left dec i n s old now kept last a f lt running left =
-    let next : step dec now ≡ after dec (suc i) s = ap (step dec) f.at ∙ sym (after_suc dec i s) in
-    let ended = left_end (step dec now).end a left in
-    let over : (after dec n s).end ≡ Some ended.0 = ended_later dec (suc i) n s ended.0 (omega arith) (ap (λ t. t.end) (sym next) ∙ ended.1) in
-    let nothing : begun_at dec (after dec i s) ≡ [] = ap (begun_at dec) (sym f.at) ∙ begins_nothing dec now a running left in
-    (ap left_at (over ∙ sym ended.1) ∙ left, f.holds ∙ sym (run_stops dec i n s old (omega arith) nothing))
+pub Followed-start : (dec : Decoder) (s : Machine) (old : Record) → left_at s.end ≡ None → Followed dec 0 s old s old None
+unfolding after with_run begun
+Followed-start dec s old h = record { at = refl; stays = h; holds = refl; before = refl }
 
--- where there is no memory for the step, or for its edge
-pub Followed-part : (dec : Decoder) (i n : ℕ) (s : Machine) (old : Record) (now : Machine) (kept : Record) (last : Option ℕ)
-    → Followed dec i s old now kept last → i ≤ n → HasPart dec n s old kept
-unfolding with_run
-Followed-part dec i n s old now kept last f le =
-    record { node_steps = i; edge_steps = i; few = (le, le); nodes = ap (λ r. r.nodes) f.holds; edges = ap (λ r. r.edges) f.holds }
+module _ (dec : Decoder) (i : ℕ) (s : Machine) (old : Record) (now : Machine) (kept : Record) (last : Option ℕ) (f : Followed dec i s old now kept last) where
+  -- after all steps
+  pub Followed-all : StaysInCode dec i s × (kept ≡ with_run dec i s old)
+  Followed-all = (ap (λ t. left_at t.end) (sym f.at) ∙ f.stays, f.holds)
 
-pub Followed-node : (dec : Decoder) (i n : ℕ) (s : Machine) (old : Record) (now : Machine) (kept new : Record) (last : Option ℕ)
-    → Followed dec i s old now kept last → i < n → now.end ≡ None → left_at (step dec now).end ≡ None
-    → new.nodes ≡ insert_key nat_cmp kept.nodes now.cpu.rip → new.edges ≡ kept.edges → HasPart dec n s old new
-unfolding with_run
-Followed-node dec i n s old now kept new last f lt running stays nodes edges =
-    let turned = (Followed-turn dec i s old now kept last f running stays).holds in
-    record { node_steps = i + 1; edge_steps = i; few = (omega arith, omega arith); nodes = nodes ∙ ap (λ r. r.nodes) turned; edges = edges ∙ ap (λ r. r.edges) f.holds }
+  -- where the run has ended
+  pub Followed-ended : (n : ℕ) → i ≤ n → is_some now.end ≡ true → StaysInCode dec n s × (kept ≡ with_run dec n s old)
+  Followed-ended n le some =
+      let found = some_of now.end some in
+      let why = found.0 in
+      let ended : (after dec i s).end ≡ Some why = ap (λ t. t.end) (sym f.at) ∙ found.1 in
+      let nothing : begun_at dec (after dec i s) ≡ [] = ap (λ o. begun_by o (decoded_at dec (after dec i s)) (after dec i s).cpu.rip) ended in
+      (ap left_at (ended_later dec i n s why le ended ∙ sym found.1) ∙ f.stays, f.holds ∙ sym (run_stops dec i n s old le nothing))
+
+  -- where there is no memory
+  pub Followed-part : (n : ℕ) (new : Record) → i ≤ n → new.nodes ≡ kept.nodes → new.edges ≡ kept.edges → HasPart dec n s old new
+  unfolding with_run
+  Followed-part n new le nodes edges =
+      record { node_steps = i; edge_steps = i; few = (le, le); nodes = nodes ∙ ap (λ r. r.nodes) f.holds; edges = edges ∙ ap (λ r. r.edges) f.holds }
+
+  module _ (next : Machine) (running : is_some now.end ≡ false) (stepped : next ≡ step dec now) where
+    next_is : next ≡ after dec (suc i) s
+    next_is = stepped ∙ ap (step dec) f.at ∙ sym (after_suc dec i s)
+
+    -- where the next step leaves the code
+    pub Followed-left : (n : ℕ) (a : ℕ) → i < n → Some a ≡ left_at next.end → LeavesCode dec n s a × (kept ≡ with_run dec n s old)
+    Followed-left n a lt left =
+        let ended = left_end next.end a (sym left) in
+        let over : (after dec n s).end ≡ Some ended.0 = ended_later dec (suc i) n s ended.0 (omega arith) (ap (λ t. t.end) (sym next_is) ∙ ended.1) in
+        let stops : left_at (step dec now).end ≡ Some a = ap (λ t. left_at t.end) (sym stepped) ∙ sym left in
+        let nothing : begun_at dec (after dec i s) ≡ [] = ap (begun_at dec) (sym f.at) ∙ begins_nothing dec now a (none_of now.end running) stops in
+        (ap left_at (over ∙ sym ended.1) ∙ sym left, f.holds ∙ sym (run_stops dec i n s old (omega arith) nothing))
+
+    module _ (stays : None ≡ left_at next.end) where
+      begun_here : begun_at dec (after dec i s) ≡ now.cpu.rip ∷ []
+      begun_here = ap (begun_at dec) (sym f.at) ∙ begins dec now (none_of now.end running) (ap (λ t. left_at t.end) (sym stepped) ∙ sym stays)
+
+      holds_more : with_begun kept last now.cpu.rip ≡ with_run dec (suc i) s old
+      holds_more = ap₂ (λ r l. with_begun r l now.cpu.rip) f.holds f.before ∙ with_run_turn dec i s old now.cpu.rip begun_here
+
+      -- where the next step begins an instruction
+      pub Followed-turn : (new : Record) → new ≡ with_begun kept last now.cpu.rip → Followed dec (i + 1) s old next new (Some now.cpu.rip)
+      Followed-turn new added =
+          rw add-one (record {
+            at = next_is;
+            stays = sym stays;
+            holds = added ∙ holds_more;
+            before = sym (ap last_of (begun_suc dec i s ∙ ap (λ l. begun dec i s ++ l) begun_here) ∙ last_of-push (begun dec i s) now.cpu.rip);
+          })
+
+      -- where there is memory for its node, but not for its edge
+      pub Followed-node : (n : ℕ) (new : Record) → i < n → new.nodes ≡ insert_key nat_cmp kept.nodes now.cpu.rip → new.edges ≡ kept.edges → HasPart dec n s old new
+      unfolding with_run
+      Followed-node n new lt nodes edges =
+          record { node_steps = suc i; edge_steps = i; few = (omega arith, omega arith); nodes = nodes ∙ ap (λ r. r.nodes) holds_more; edges = edges ∙ ap (λ r. r.edges) f.holds }

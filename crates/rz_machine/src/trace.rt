@@ -200,14 +200,14 @@ fn address_left(end: Option<End>) -> Option<u64>
 // Adds the nodes and the edges of the first `limit` steps of a machine.
 fn follow<T: InsnTable>(
     alloc: Global,
-    mut machine: Machine,
+    machine: &mut Machine,
     limit: u64,
     rec: &mut Record,
 ) -> Result<(), TraceRefusal>
-    requires { left_at machine.end ≡ None }
-    ensures ok { OnOk result (rec.new ≡ with_run T.decoder limit machine rec.old) }
-    ensures stays { OnOk result (StaysInCode T.decoder limit machine) }
-    ensures err { IfErr result (IsRefused T.decoder limit machine rec.old rec.new) }
+    requires { left_at machine.old.end ≡ None }
+    ensures ok { OnOk result (rec.new ≡ with_run T.decoder limit machine.old rec.old) }
+    ensures stays { OnOk result (StaysInCode T.decoder limit machine.old) }
+    ensures err { IfErr result (IsRefused T.decoder limit machine.old rec.old rec.new) }
 {
     let mut last = None;
     for _ in 0..limit {
