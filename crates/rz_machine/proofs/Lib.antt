@@ -9,3 +9,6 @@ pub mod MemoryTurns
 pub mod TraceTurns
 pub mod Calls
 pub mod Runs
+pub mod Zeros
+pub mod ThinFiles
+pub mod Loads

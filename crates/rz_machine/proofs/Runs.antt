@@ -1,5 +1,5 @@
 -- Steps one after the other.
-use Rattle.std.proofs.Common.{◌≡◌, ℕ, zero, suc, ◌+◌, Option, Some, None, refl, sym, ap, ◌∙◌, arith, add-one}
+use Rattle.std.proofs.Common.{◌≡◌, ℕ, zero, suc, ◌+◌, ◌-◌, ◌≤◌, true, is_some, Option, Some, None, refl, sym, ap, ◌∙◌, arith}
 use Rattle.rz_machine.specs.declared.machine.End.{End}
 use Rattle.rz_machine.specs.declared.machine.Machine.{Machine}
 use Rattle.rz_machine.specs.Insn.{Decoder}
@@ -24,3 +24,13 @@ after-+ dec (suc n) m s = let e : suc n + m ≡ suc (n + m) = omega arith in ap 
 pub after-suc : (dec : Decoder) (n : ℕ) (s : Machine) → after dec (n + 1) s ≡ step dec (after dec n s)
 unfolding after
 after-suc dec n s = after-+ dec n 1 s
+
+-- a state that has ended within n steps is the state after n steps
+pub after-long : (dec : Decoder) (k n : ℕ) (s t : Machine) → t ≡ after dec k s → k ≤ n → is_some t.end ≡ true → t ≡ after dec n s
+after-long dec k n s t e le ended = go t.end refl ended
+  where
+    go : (o : Option End) → t.end ≡ o → is_some o ≡ true → t ≡ after dec n s
+    go (Some why) at some =
+        let rest : k + (n - k) ≡ n = omega arith in
+        sym (ap (λ j. after dec j s) (sym rest) ∙ after-+ dec k (n - k) s ∙ ap (after dec (n - k)) (sym e) ∙ after-ended dec (n - k) t why at)
+    go None at some = cc
