@@ -1,18 +1,21 @@
 -- One more step of a run that is traced.
-use Rattle.std.proofs.Common.{◌≡◌, ℕ, zero, suc, ◌+◌, ◌-◌, ◌<◌, ◌≤◌, ◌⊎◌, inl, inr, ⊎_elim, true, false, List, [], ◌∷◌, ◌++◌, Option, Some, None, is_some, refl, sym, ap, ap₂, ◌∙◌, subst, arith, add-one}
+use Rattle.std.proofs.Common.{◌≡◌, ℕ, zero, suc, ◌+◌, ◌-◌, ◌<◌, ◌≤◌, ◌⊎◌, inl, inr, ⊎_elim, true, false, List, [], ◌∷◌, ◌++◌, Option, Some, None, is_some, Result, Ok, Err, IfErr, refl, sym, ap, ap₂, ◌∙◌, subst, arith, add-one}
 use Rattle.std.proofs.lemmas.List.{append_assoc, append-nil}
 use Rattle.std.proofs.lemmas.List.Sums.{fold-append}
+use Rattle.std.specs.Result.{IsErrAnd}
 use Rattle.std.specs.Ordering.{nat_cmp}
 use Rattle.std.specs.BTreeSet.{insert_key}
 use Rattle.rz_machine.specs.declared.machine.End.{End}
 use Rattle.rz_machine.specs.declared.machine.End.TheVariants as end
 use Rattle.rz_machine.specs.declared.machine.Machine.{Machine}
 use Rattle.rz_machine.specs.declared.trace.Record.{Record}
+use Rattle.rz_machine.specs.declared.trace.TraceRefusal.{TraceRefusal}
+use Rattle.rz_machine.specs.declared.trace.TraceRefusal.TheVariants as refusal
 use Rattle.rz_machine.specs.Insn.{Decoder}
 use Rattle.rz_machine.specs.State.{step, after, decoded_at}
 use Rattle.rz_machine.specs.Begun.{begun_by, begun_at, begun, neighbours, pair_cmp, with_nodes, with_edges}
 use Rattle.rz_machine.specs.LeftCode.{left_at, LeavesCode, StaysInCode}
-use Rattle.rz_machine.specs.Traced.{with_run, HasPart, edge_from, with_begun}
+use Rattle.rz_machine.specs.Traced.{with_run, HasPart, IsRefused, edge_from, with_begun}
 use Rattle.rz_machine.proofs.TraceLaws.{begins, begins_nothing, begun_none, begun_ended}
 use Rattle.rz_machine.proofs.RecordedLaws.{after_suc, ended_later}
 
@@ -83,6 +86,16 @@ left_end (Some why) a h = (why, refl)
 pub Followed-start : (dec : Decoder) (s : Machine) (old : Record) → left_at s.end ≡ None → Followed dec 0 s old s old None
 unfolding after with_run begun
 Followed-start dec s old h = record { at = refl; stays = h; holds = refl; before = refl }
+
+-- want of memory refuses with a part of the run
+pub no_memory : {A : Type 0} (dec : Decoder) (n : ℕ) (s : Machine) (old new : Record) (r : Result A TraceRefusal) → IsErrAnd r (λ e. e ≡ refusal.OutOfMemory) → HasPart dec n s old new → IfErr r (IsRefused dec n s old new)
+no_memory dec n s old new (Ok a) h part = tt
+no_memory dec n s old new (Err e) h part = subst (IsRefused dec n s old new) (sym h) part
+
+-- where there is no memory for the start
+pub HasPart-nothing : (dec : Decoder) (n : ℕ) (s : Machine) (old : Record) → HasPart dec n s old old
+unfolding begun
+HasPart-nothing dec n s old = record { node_steps = 0; edge_steps = 0; few = (omega arith, omega arith); nodes = refl; edges = refl }
 
 module _ (dec : Decoder) (i : ℕ) (s : Machine) (old : Record) (now : Machine) (kept : Record) (last : Option ℕ) (f : Followed dec i s old now kept last) where
   -- after all steps

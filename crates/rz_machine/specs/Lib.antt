@@ -23,3 +23,4 @@ pub mod Left
 pub mod Ran
 pub mod Loaded
 pub mod ThinPage
+pub mod Recorded

@@ -1,13 +1,21 @@
 //! What runs used: the addresses of the instructions that they began, and the pairs of neighbours.
 
-ghost use Rattle.std.specs.Prelude.{◌≡◌, ◌⊎◌, ℕ, List, [], not, length, None, OnOk, OnErr, IfOk, IfErr};
+ghost use Rattle.std.specs.Prelude.{◌≡◌, ◌⊎◌, ◌≤◌, ℕ, List, [], not, length, None, OnOk, OnErr, IfOk, IfErr};
 ghost use Rattle.std.specs.Ordering.{nat_cmp};
 ghost use Rattle.std.specs.BTreeSet.{insert_key};
 ghost use Rattle.std.specs.List.Sorted.{IsStrictlySortedBy};
 ghost use Rattle.rz_machine.specs.LeftCode.{left_at, StaysInCode};
 ghost use Rattle.rz_machine.specs.Traced.{with_run, IsRefused};
+ghost use Rattle.rz_machine.specs.Recorded.{StandsIn, IsUncut};
+ghost use Rattle.rz_machine.specs.Rewritable.{IsRewritable};
+ghost use Rattle.rz_machine.specs.Memory.{NoSelfWritten};
+ghost use Rattle.rz_machine.specs.Start.{start as start_of, IsEmptyInput};
+ghost use Rattle.rz_machine.specs.Loaded.{loaded, IsLoadable};
 
+use crate::elf::Elf;
 use crate::machine::{End, Machine};
+use crate::start::start;
+use crate::sys::Input;
 use crate::table::InsnTable;
 use rz_num::{OutOfMemory, Pairs, Words};
 use std::alloc::Global;
@@ -185,6 +193,30 @@ impl From<OutOfMemory> for TraceRefusal {
     fn from(_: OutOfMemory) -> TraceRefusal {
         TraceRefusal::OutOfMemory
     }
+}
+
+/// Runs a file on an input for `limit` steps, or until the run ends, and adds to the record the address of each
+/// instruction that is begun and each pair of neighbours. `LeftCode` comes exactly where one of these steps finds no
+/// instruction; what came before it is then in the record. For want of memory the record has what it had and a part of the run.
+pub fn trace<T: InsnTable>(
+    alloc: Global,
+    elf: &Elf,
+    input: &Input,
+    limit: u64,
+    rec: &mut Record,
+) -> Result<(), TraceRefusal>
+    requires loadable { IsLoadable elf.now }
+    requires input { IsEmptyInput input.now }
+    ensures added { OnOk result (rec.new ≡ with_run T.decoder limit (start_of (loaded elf.now) input.now) rec.old) }
+    ensures stays { OnOk result (StaysInCode T.decoder limit (start_of (loaded elf.now) input.now)) }
+    ensures refused { IfErr result (IsRefused T.decoder limit (start_of (loaded elf.now) input.now) rec.old rec.new) }
+    // What is recorded from nothing, with a limit of at least 1, can be rewritten, and the run has no cut.
+    ensures rewritable { OnOk result (1 ≤ limit → NoSelfWritten (loaded elf.now).loads
+        → StandsIn T.decoder (loaded elf.now).loads rec.old → IsRewritable T.decoder (loaded elf.now) rec.new) }
+    ensures uncut { OnOk result (IsUncut T.decoder rec.new.edges (start_of (loaded elf.now) input.now) limit) }
+{
+    let mut machine = start(alloc, elf, input)?;
+    follow::<T>(alloc, &mut machine, limit, rec)
 }
 
 // The address where a run found no instruction, if it ended so.

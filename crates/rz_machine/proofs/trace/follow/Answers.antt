@@ -1,17 +1,6 @@
-use Rattle.std.proofs.Common.{◌≡◌, Result, Ok, Err, IfErr, sym, ◌∙◌, subst, refl, arith, ⊎_elim}
-use Rattle.std.specs.Result.{IsErrAnd}
-use Rattle.rz_machine.specs.declared.machine.Machine.{Machine}
-use Rattle.rz_machine.specs.declared.trace.Record.{Record}
-use Rattle.rz_machine.specs.declared.trace.TraceRefusal.{TraceRefusal}
-use Rattle.rz_machine.specs.declared.trace.TraceRefusal.TheVariants as refusal
-use Rattle.rz_machine.specs.Traced.{IsRefused, HasPart}
-use Rattle.rz_machine.proofs.TraceTurns.{Followed-start, Followed-turn, Followed-ended, Followed-left, Followed-part, Followed-node}
+use Rattle.std.proofs.Common.{sym, ◌∙◌, refl, arith, ⊎_elim}
+use Rattle.rz_machine.proofs.TraceTurns.{no_memory, Followed-start, Followed-turn, Followed-ended, Followed-left, Followed-part, Followed-node}
 use Rattle.rz_machine.proofs.trace.follow.Goals as goal
-
--- want of memory refuses with a part of the run
-no_memory : {A : Type 0} (dec : _) (n : _) (s : Machine) (old new : Record) (r : Result A TraceRefusal) → IsErrAnd r (λ e. e ≡ refusal.OutOfMemory) → HasPart dec n s old new → IfErr r (IsRefused dec n s old new)
-no_memory dec n s old new (Ok a) h part = tt
-no_memory dec n s old new (Err e) h part = subst (IsRefused dec n s old new) (sym h) part
 
 pub loop-init : goal.loop-init
 loop-init g c = Followed-start _ _ _ c.requires
