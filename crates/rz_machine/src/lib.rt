@@ -4,6 +4,8 @@
 pub mod call;
 pub mod decode;
 pub mod elf;
+pub mod elf_law;
+pub mod elf_write;
 pub mod first;
 pub mod flags;
 pub mod insn;
