@@ -21,6 +21,7 @@ pub mod StartCode
 pub mod TraceLaws
 pub mod RecordedLaws
 pub mod MemoryTurns
+pub mod TraceTurns
 pub mod Calls
 pub mod RunTurns
 pub mod Zeros

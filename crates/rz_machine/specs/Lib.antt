@@ -27,3 +27,4 @@ pub mod Ran
 pub mod Loaded
 pub mod ThinPage
 pub mod Rewritten
+pub mod Recorded
