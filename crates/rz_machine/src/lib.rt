@@ -3,6 +3,7 @@
 
 pub mod decode;
 pub mod elf;
+pub mod encode;
 pub mod flags;
 pub mod insn;
 pub mod items;

@@ -31,6 +31,18 @@ impl Model for EdgeSet {
     ghost view = { λ s. s.items.keys };
 }
 
+impl EdgeSet {
+    ghost use Rattle.std.specs.Prelude.{◌≡◌};
+    ghost use Rattle.rz_machine.specs.Keeps.{has_edge};
+
+    /// Whether the edge from `from` to `to` is in the set.
+    pub fn contains(&self, from: u64, to: u64) -> bool
+        ensures { result ≡ has_edge self.now from to }
+    {
+        self.items.contains(&(from, to))
+    }
+}
+
 /// The nodes and the edges that are kept.
 #[derive(Drop)]
 pub struct Record {
