@@ -2,7 +2,7 @@
 
 ghost use Rattle.std.specs.Prelude.{◌≡◌, ◌++◌, ◌<◌, ◌^◌, OnOk};
 ghost use Rattle.byteorder.specs.Endian.{little_bytes};
-ghost use Rattle.rz_machine.specs.First.{spelling, HasSpelling, displacement};
+ghost use Rattle.rz_machine.specs.First.{spelling, spelling_len, HasSpelling, displacement};
 
 use crate::insn::{Insn, Operand, Place, Reg};
 use rz_num::{Bytes, OutOfMemory};
@@ -27,6 +27,16 @@ pub fn encode(insn: &Insn, at: u64, out: &mut Bytes) -> Result<(), OutOfMemory>
         }
         Insn::Syscall => out.push_all(&[0x0f, 0x05]),
         Insn::Ud2 => out.push_all(&[0x0f, 0x0b]),
+    }
+}
+
+/// The length of the canonical spelling, in bytes: the same at every address.
+pub fn encoded_len(insn: &Insn) -> u64
+    ensures { result ≡ spelling_len insn.now }
+{
+    match *insn {
+        Insn::Mov { .. } | Insn::Jmp { .. } => 5,
+        Insn::Syscall | Insn::Ud2 => 2,
     }
 }
 
