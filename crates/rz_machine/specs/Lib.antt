@@ -15,3 +15,9 @@ pub mod WrittenFile
 pub mod Thin
 pub mod Rewritable
 pub mod Fragments
+pub mod LeftCode
+pub mod Traced
+pub mod TableLaws
+pub mod FirstLaws
+pub mod Left
+pub mod Ran

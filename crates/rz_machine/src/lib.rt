@@ -1,13 +1,18 @@
 //! The written machine: its definitions, the machine that runs, and the tracer.
 #![tactic(auto)]
 
+pub mod call;
 pub mod decode;
 pub mod elf;
 pub mod encode;
+pub mod first;
 pub mod flags;
 pub mod insn;
 pub mod items;
+pub mod law;
+pub mod kinds;
 pub mod machine;
 pub mod memory;
 pub mod sys;
+pub mod table;
 pub mod trace;

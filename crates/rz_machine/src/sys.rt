@@ -2,7 +2,8 @@
 
 ghost use Rattle.std.specs.Prelude.{List, ℕ};
 
-use rz_num::Bytes;
+use rz_num::{Bytes, OutOfMemory};
+use std::alloc::Global;
 use std::collections::VecDeque;
 use std::marker::Model;
 
@@ -32,6 +33,46 @@ impl Model for Replies {
     ghost view = { λ r. r.items.items };
 }
 
+impl Replies {
+    ghost use Rattle.std.specs.Prelude.{◌≡◌, [], ◌∷◌, ◌++◌, OnOk, OnErr};
+    ghost use Rattle.rz_machine.specs.Answer.{next_reply, later_replies};
+
+    /// No replies: then each call is answered whole. It takes no memory.
+    pub fn new(alloc: Global) -> Replies
+        ensures { result ≡ [] }
+    {
+        Replies {
+            items: VecDeque::new(alloc),
+        }
+    }
+
+    /// Appends a reply. It refuses for want of memory alone, and then the list is unchanged.
+    pub fn push(&mut self, reply: Reply) -> Result<(), OutOfMemory>
+        ensures ok { OnOk result (self.new ≡ self.old ++ reply ∷ []) }
+        ensures err { OnErr result (self.new ≡ self.old) }
+    {
+        self.items.push_back(reply)?;
+        Ok(())
+    }
+
+    /// The reply in turn.
+    pub fn first(&self) -> Reply
+        ensures { result ≡ next_reply self.now }
+    {
+        match self.items.front() {
+            Some(reply) => *reply,
+            None => Reply::Full,
+        }
+    }
+
+    /// Leaves out the reply in turn.
+    pub fn advance(&mut self)
+        ensures { self.new ≡ later_replies self.old }
+    {
+        let _ = self.items.pop_front();
+    }
+}
+
 /// Argument strings.
 #[derive(Drop)]
 pub struct Args {
@@ -44,12 +85,57 @@ impl Model for Args {
     ghost view = { λ a. a.items.items };
 }
 
+impl Args {
+    ghost use Rattle.std.specs.Prelude.{◌≡◌, [], ◌∷◌, ◌++◌, OnOk, OnErr};
+
+    /// No argument strings. It takes no memory.
+    pub fn new(alloc: Global) -> Args
+        ensures { result ≡ [] }
+    {
+        Args {
+            items: Vec::new(alloc),
+        }
+    }
+
+    /// Appends an argument string. It refuses for want of memory alone, and then the list is unchanged.
+    pub fn push(&mut self, arg: Bytes) -> Result<(), OutOfMemory>
+        ensures ok { OnOk result (self.new ≡ self.old ++ arg ∷ []) }
+        ensures err { OnErr result (self.new ≡ self.old) }
+    {
+        self.items.push(arg)?;
+        Ok(())
+    }
+
+    /// The argument strings as a slice.
+    pub fn as_slice(&self) -> &[Bytes]
+        ensures { result.now ≡ self.now }
+    {
+        self.items.as_slice()
+    }
+}
+
 /// What a run is given: its arguments, its standard input, and the replies to its calls.
 #[derive(Drop)]
 pub struct Input {
     pub args: Args,
     pub stdin: Bytes,
     pub replies: Replies,
+}
+
+impl Input {
+    ghost use Rattle.std.specs.Prelude.{◌≡◌};
+    ghost use Rattle.rz_machine.specs.Start.{empty_input};
+
+    /// No arguments, no standard input and no replies. It takes no memory.
+    pub fn empty(alloc: Global) -> Input
+        ensures { result ≡ empty_input }
+    {
+        Input {
+            args: Args::new(alloc),
+            stdin: Bytes::new(alloc),
+            replies: Replies::new(alloc),
+        }
+    }
 }
 
 /// A system call as it was made and answered: its number, its three arguments, the answer, and the bytes that it moved.
@@ -74,6 +160,35 @@ impl Model for Events {
     ghost Value = { List Event };
 
     ghost view = { λ e. e.items.items };
+}
+
+impl Events {
+    ghost use Rattle.std.specs.Prelude.{◌≡◌, [], ◌∷◌, ◌++◌, OnOk, OnErr};
+
+    /// No events. It takes no memory.
+    pub fn new(alloc: Global) -> Events
+        ensures { result ≡ [] }
+    {
+        Events {
+            items: Vec::new(alloc),
+        }
+    }
+
+    /// Appends an event. It refuses for want of memory alone, and then the list is unchanged.
+    pub fn push(&mut self, event: Event) -> Result<(), OutOfMemory>
+        ensures ok { OnOk result (self.new ≡ self.old ++ event ∷ []) }
+        ensures err { OnErr result (self.new ≡ self.old) }
+    {
+        self.items.push(event)?;
+        Ok(())
+    }
+
+    /// The events as a slice.
+    pub fn as_slice(&self) -> &[Event]
+        ensures { result.now ≡ self.now }
+    {
+        self.items.as_slice()
+    }
 }
 
 /// What system calls read and leave, memory and registers aside.

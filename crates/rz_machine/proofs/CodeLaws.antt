@@ -1,0 +1,79 @@
+-- What may be executed, and the permissions of a range, stay as they are.
+use Rattle.std.proofs.Common.{◌≡◌, ◌≢◌, ℕ, zero, suc, ◌+◌, ⊎_elim, Bool, true, false, if◌then◌else◌, refl, sym, ap, ap₂, ◌∙◌, subst}
+use Rattle.std.proofs.lemmas.Bool.{cases_eq}
+use Rattle.rz_machine.specs.declared.memory.Cell.{Cell}
+use Rattle.rz_machine.specs.declared.machine.Machine.{Machine}
+use Rattle.rz_machine.specs.Memory.{Regions, Range, IsInside, cell_at, put_byte, code_of, fetched, fetch, SameCode, NoSelfWritten, SamePerms, PermsStand}
+use Rattle.rz_machine.specs.Insn.{Decoder}
+use Rattle.rz_machine.specs.State.{step, after}
+use Rattle.rz_machine.proofs.MemoryLaws.{set_byte, cell_at-put_same, cell_at-put_other}
+use Rattle.rz_machine.proofs.StepLaws.{StandsPut, step_stands, after_stands}
+
+-- the same code is fetched alike
+pub fetch_same : (m n : Regions) (a k : ℕ) → SameCode m n → fetch m a k ≡ fetch n a k
+unfolding fetch
+fetch_same m n a zero h = refl
+fetch_same m n a (suc k) h = ap₂ fetched (h.at a) (fetch_same m n (a + 1) k h)
+
+-- m has the code of an older memory, and no byte of m may be both written and executed
+pub record HasCode (old m : Regions) : Type 0 where
+  pub same : SameCode old m
+  pub fixed : NoSelfWritten m
+
+-- another byte in a cell leaves its permissions
+perms_set : (b : ℕ) (c : Cell) → SamePerms c (set_byte b c)
+perms_set b c = go c.write
+  where
+    go : (w : Bool) → SamePerms c (if w then record c { byte = b } else c)
+    go true = record { read = refl; write = refl; execute = refl }
+    go false = record { read = refl; write = refl; execute = refl }
+
+-- another byte in a cell that may not be executed leaves its code
+code_set : (b : ℕ) (c : Cell) → (c.write ≡ true → c.execute ≡ false) → code_of (set_byte b c) ≡ code_of c
+code_set b c h = go c.write h
+  where
+    go : (w : Bool) → (w ≡ true → c.execute ≡ false) → code_of (if w then record c { byte = b } else c) ≡ code_of c
+    go true h = rw (h refl) refl
+    go false h = refl
+
+-- a put of a byte leaves all permissions
+pub perms_put : (m : Regions) (a b c : ℕ) → SamePerms (cell_at m c) (cell_at (put_byte m a b) c)
+perms_put m a b c = ⊎_elim same other (cases_eq c a)
+  where
+    P : ℕ → Type 0
+    P d = SamePerms (cell_at m d) (cell_at (put_byte m a b) d)
+
+    same : c ≡ a → P c
+    same e = subst P (sym e) (rw (cell_at-put_same m a b) (perms_set b (cell_at m a)))
+
+    other : c ≢ a → P c
+    other ne = rw (cell_at-put_other m a b c ne) (record { read = refl; write = refl; execute = refl })
+
+-- a put of a byte leaves the code
+has_code_put : (old : Regions) → StandsPut (HasCode old)
+has_code_put old m a b h =
+    record {
+      same = record { at = λ c. h.same.at c ∙ sym (⊎_elim (λ e. here c e) (λ ne. ap code_of (cell_at-put_other m a b c ne)) (cases_eq c a)) };
+      fixed = record { at = λ c w. let p = perms_put m a b c in sym p.execute ∙ h.fixed.at c (p.write ∙ w) };
+    }
+  where
+    here : (c : ℕ) → c ≡ a → code_of (cell_at (put_byte m a b) c) ≡ code_of (cell_at m c)
+    here c e =
+        let P : ℕ → Type 0 = λ d. code_of (cell_at (put_byte m a b) d) ≡ code_of (cell_at m d) in
+        subst P (sym e) (ap code_of (cell_at-put_same m a b) ∙ code_set b (cell_at m a) (h.fixed.at a))
+
+-- a put of a byte leaves the permissions of a range
+perms_stand_put : (r : Range) (old : Regions) → StandsPut (PermsStand r old)
+perms_stand_put r old m a b h =
+    record { at = λ c i. let p = perms_put m a b c in let q = h.at c i in record { read = q.read ∙ p.read; write = q.write ∙ p.write; execute = q.execute ∙ p.execute } }
+
+-- the code stands through steps
+pub step_code : (old : Regions) (dec : Decoder) (s : Machine) → HasCode old s.mem → HasCode old (step dec s).mem
+step_code old = step_stands (HasCode old) (has_code_put old)
+
+pub after_code : (old : Regions) (dec : Decoder) (n : ℕ) (s : Machine) → HasCode old s.mem → HasCode old (after dec n s).mem
+after_code old = after_stands (HasCode old) (has_code_put old)
+
+-- the permissions of a range stand through steps
+pub after_perms : (r : Range) (old : Regions) (dec : Decoder) (n : ℕ) (s : Machine) → PermsStand r old s.mem → PermsStand r old (after dec n s).mem
+after_perms r old = after_stands (PermsStand r old) (perms_stand_put r old)

@@ -1,0 +1,108 @@
+-- What a step does to memory: nothing but puts of bytes.
+use Rattle.std.proofs.Common.{ℕ, zero, suc, ◌+◌, List, [], ◌∷◌, Option, Some, None, Result, Ok, Err}
+use Rattle.byteorder.specs.Endian.{little_bytes}
+use Rattle.rz_machine.specs.declared.flags.Flags.{Flags}
+use Rattle.rz_machine.specs.declared.insn.Insn.{Insn}
+use Rattle.rz_machine.specs.declared.insn.Insn.TheVariants as insn
+use Rattle.rz_machine.specs.declared.decode.Decoded.{Decoded}
+use Rattle.rz_machine.specs.declared.decode.Decoded.TheVariants as decoded
+use Rattle.rz_machine.specs.declared.machine.End.{End}
+use Rattle.rz_machine.specs.declared.machine.Machine.{Machine}
+use Rattle.rz_machine.specs.declared.sys.Reply.{Reply}
+use Rattle.rz_machine.specs.declared.sys.Reply.TheVariants.{Full, AtMost, Error}
+use Rattle.rz_machine.specs.declared.sys.World.{World}
+use Rattle.rz_machine.specs.Memory.{Regions, put_byte, put_bytes, wrap, refused, is_writable}
+use Rattle.rz_machine.specs.Insn.{Decoder}
+use Rattle.rz_machine.specs.Effect.{Access, Effect, Outcome, Goes, Stops, Done, Went, Stopped, carry, carry_out, after_reads, stored, read_words, effect}
+use Rattle.rz_machine.specs.Answer.{Called, Call, Write, NoFile, Exit, Other, answer, answer_as, call_in, write_allowed, write_reply, next_reply}
+use Rattle.rz_machine.specs.State.{step, after, act, perform, perform_effect, running, after_done, after_exit}
+
+-- a property of memory that stands under a put of one byte
+abbrev pub StandsPut : (Regions → Type 0) → Type 0
+StandsPut P = (m : Regions) (a b : ℕ) → P m → P (put_byte m a b)
+
+module _ (P : Regions → Type 0) (stands : StandsPut P) where
+  -- puts of a list of bytes
+  pub puts_stand : (m : Regions) (a : ℕ) (bs : List ℕ) → P m → P (put_bytes m a bs)
+  unfolding put_bytes
+  puts_stand m a [] h = h
+  puts_stand m a (b ∷ bs) h = puts_stand (put_byte m (wrap a) b) (a + 1) bs (stands m (wrap a) b h)
+
+  -- the memory that is left of an effect
+  abbrev InDone : Done → Type 0
+  InDone (Went regs flags mem to) = P mem
+  InDone (Stopped why) = Unit {0}
+
+  carry_stands : (m : Regions) (e : Effect) → P m → InDone (carry e m)
+  unfolding carry
+  carry_stands m e h = go (read_words m e.reads)
+    where
+      store : (o : Option ℕ) (a : Access) (regs : List ℕ) (flags : Flags) (word : ℕ) (to : Option ℕ) → InDone (stored o m a regs flags word to)
+      store (Some bad) a regs flags word to = tt
+      store None a regs flags word to = puts_stand m a.at (little_bytes a.size word) h
+
+      out : (w : Option Access) (o : Outcome) → InDone (carry_out m w o)
+      out w (Stops why) = tt
+      out None (Goes regs flags word to) = h
+      out (Some a) (Goes regs flags word to) = store (refused is_writable m a.at a.size) a regs flags word to
+
+      go : (r : Result (List ℕ) ℕ) → InDone (after_reads e m r)
+      go (Err bad) = tt
+      go (Ok words) = out e.write (e.gives words)
+
+  -- a system call leaves memory as it is
+  answer_stands : (m : Regions) (regs : List ℕ) (w : World) → P m → P (answer regs m w).mem
+  unfolding answer
+  answer_stands m regs w h = go (call_in regs) _ _ _
+    where
+      sent : (r : Reply) (at n : ℕ) → P (write_reply r at n m w).mem
+      sent Full at n = h
+      sent (AtMost k) at n = h
+      sent (Error e) at n = h
+
+      send : (o : Option ℕ) (at n : ℕ) → P (write_allowed o at n m w).mem
+      send None at n = sent (next_reply w.replies) at n
+      send (Some bad) at n = h
+
+      go : (c : Call) (a b n : ℕ) → P (answer_as c a b n m w).mem
+      go Write a b n = send _ _ _
+      go NoFile a b n = h
+      go Exit a b n = h
+      go Other a b n = h
+
+  -- one step
+  pub step_stands : (dec : Decoder) (s : Machine) → P s.mem → P (step dec s).mem
+  unfolding step
+  step_stands dec s h = run s.end
+    where
+      done : (d : Done) (next : ℕ) → InDone d → P (after_done d next s).mem
+      done (Stopped why) next k = h
+      done (Went regs flags mem to) next k = k
+
+      call : (o : Option ℕ) (c : Called) (next : ℕ) → P c.mem → P (after_exit o c next s).mem
+      call (Some status) c next k = h
+      call None c next k = k
+
+      effects : (x : Insn) (next : ℕ) → P (perform_effect x next s).mem
+      effects x next = done _ next (carry_stands s.mem (effect x s.cpu.rip s.cpu.regs s.cpu.flags) h)
+
+      does : (x : Insn) (next : ℕ) → P (perform x next s).mem
+      does (insn.Mov w dst src) next = effects (insn.Mov w dst src) next
+      does (insn.Jmp target) next = effects (insn.Jmp target) next
+      does insn.Ud2 next = effects insn.Ud2 next
+      does insn.Syscall next = call _ _ next (answer_stands s.mem s.cpu.regs s.world h)
+
+      acts : (d : Decoded) → P (act d s).mem
+      acts (decoded.Insn x len) = does x _
+      acts decoded.Short = h
+      acts decoded.Unknown = h
+
+      run : (o : Option End) → P (running o dec s).mem
+      run None = acts _
+      run (Some why) = h
+
+  -- any number of steps
+  pub after_stands : (dec : Decoder) (n : ℕ) (s : Machine) → P s.mem → P (after dec n s).mem
+  unfolding after
+  after_stands dec zero s h = h
+  after_stands dec (suc n) s h = after_stands dec n (step dec s) (step_stands dec s h)

@@ -1,0 +1,163 @@
+//! System calls: what they answer, record and leave.
+
+ghost use Rattle.std.specs.Prelude.{◌≡◌, ◌≤◌, ◌+◌, ◌^◌, set, IfOk, OnOk, OnErr};
+ghost use Rattle.rz_machine.specs.declared.sys.World.{World};
+ghost use Rattle.rz_machine.specs.Memory.{bytes_at};
+ghost use Rattle.rz_machine.specs.Answer.{answer as answer_of, answer_as, negative as negative_of, write_reply as write_reply_of, world_after, rdi, rsi, rdx, Write};
+ghost use Rattle.rz_machine.specs.Left.{regs_left, recorded_call};
+
+use crate::memory::Memory;
+use crate::sys::{Event, Reply, World};
+use rz_num::{Bytes, OutOfMemory};
+use std::alloc::Global;
+
+// The numbers of the registers that a call reads (Intel SDM, volume 2, table 3-1).
+const RAX: usize = 0;
+
+const RDX: usize = 2;
+
+const RSI: usize = 6;
+
+const RDI: usize = 7;
+
+// The most bytes that one call moves.
+const MOST: u64 = 0x7fff_f000;
+
+// Error numbers: no such descriptor, no such address, no such call.
+const BAD_FILE: u64 = 9;
+
+const BAD_ADDRESS: u64 = 14;
+
+const NO_CALL: u64 = 38;
+
+/// Makes the system call that the registers name, and records it. It answers the status where the call ends the run;
+/// else RAX is the call's answer. It refuses for want of memory alone, and then nothing is changed.
+#[tactic(auto, unfolding(crate::specs::Answer::answer))]
+pub fn syscall(
+    alloc: Global,
+    regs: &mut [u64; 16],
+    mem: &mut Memory,
+    world: &mut World,
+) -> Result<Option<u8>, OutOfMemory>
+    ensures status { IfOk result (λ exit. exit ≡ (answer_of regs.old mem.old world.old).exit) }
+    ensures regs { OnOk result (regs.new ≡ regs_left regs.old (answer_of regs.old mem.old world.old)) }
+    ensures mem { OnOk result (mem.new ≡ (answer_of regs.old mem.old world.old).mem) }
+    ensures world { OnOk result (world.new ≡ world_after regs.old world.old (answer_of regs.old mem.old world.old)) }
+    ensures err { OnErr result ((regs.new ≡ regs.old) × (mem.new ≡ mem.old) × (world.new ≡ world.old)) }
+{
+    let number = regs[RAX];
+    let first = regs[RDI];
+    if number == 1 {
+        if first == 1 || first == 2 {
+            write(alloc, regs, mem, world)?;
+            return Ok(None);
+        }
+        answered(world, regs, negative(BAD_FILE), Bytes::new(alloc))?;
+        return Ok(None);
+    }
+    if number == 60 || number == 231 {
+        note(world, regs, 0, Bytes::new(alloc))?;
+        return Ok(Some((first % 256) as u8));
+    }
+    answered(world, regs, negative(NO_CALL), Bytes::new(alloc))?;
+    Ok(None)
+}
+
+// A write to standard output or error.
+fn write(
+    alloc: Global,
+    regs: &mut [u64; 16],
+    mem: &Memory,
+    world: &mut World,
+) -> Result<(), OutOfMemory>
+    ensures regs { OnOk result (regs.new ≡ regs_left regs.old (answer_as Write (rdi regs.old) (rsi regs.old) (rdx regs.old) mem.now world.old)) }
+    ensures world { OnOk result (world.new ≡ world_after regs.old world.old (answer_as Write (rdi regs.old) (rsi regs.old) (rdx regs.old) mem.now world.old)) }
+    ensures err { OnErr result ((regs.new ≡ regs.old) × (world.new ≡ world.old)) }
+{
+    let at = regs[RSI];
+    let count = regs[RDX].min(MOST);
+    if !mem.can_read(at, count) {
+        return answered(world, regs, negative(BAD_ADDRESS), Bytes::new(alloc));
+    }
+    let moved = write_reply(alloc, world.replies.first(), at, count, mem)?;
+    answered(world, regs, moved.answer, moved.bytes)?;
+    world.replies.advance();
+    Ok(())
+}
+
+// An answer, and the bytes that are moved.
+#[derive(Drop)]
+struct Moved {
+    answer: u64,
+    bytes: Bytes,
+}
+
+// A write of `count` bytes from `at` on as a reply has it.
+fn write_reply(
+    alloc: Global,
+    reply: Reply,
+    at: u64,
+    count: u64,
+    mem: &Memory,
+) -> Result<Moved, OutOfMemory>
+    requires { at + count ≤ 2 ^ 64 }
+    ensures answer { IfOk result (λ moved. (w : World) → moved.answer ≡ (write_reply_of reply at count mem.now w).answer) }
+    ensures bytes { IfOk result (λ moved. (w : World) → moved.bytes ≡ (write_reply_of reply at count mem.now w).bytes) }
+{
+    match reply {
+        Reply::Full => move_bytes(alloc, at, count, mem),
+        Reply::AtMost(most) => move_bytes(alloc, at, most.min(count), mem),
+        Reply::Error(number) => Ok(Moved {
+            answer: negative(number),
+            bytes: Bytes::new(alloc),
+        }),
+    }
+}
+
+// A write that moves `count` bytes.
+fn move_bytes(alloc: Global, at: u64, count: u64, mem: &Memory) -> Result<Moved, OutOfMemory>
+    requires { at + count ≤ 2 ^ 64 }
+    ensures { IfOk result (λ moved. (moved.answer ≡ count) × (moved.bytes ≡ bytes_at mem.now at count)) }
+{
+    let bytes = mem.copy(alloc, at, count)?;
+    Ok(Moved {
+        answer: count,
+        bytes,
+    })
+}
+
+// Records a call that goes on with this answer in RAX.
+fn answered(
+    world: &mut World,
+    regs: &mut [u64; 16],
+    answer: u64,
+    bytes: Bytes,
+) -> Result<(), OutOfMemory>
+    ensures regs { OnOk result (regs.new ≡ set regs.old 0 answer) }
+    ensures world { OnOk result (world.new ≡ recorded_call regs.old answer bytes world.old) }
+    ensures err { OnErr result ((regs.new ≡ regs.old) × (world.new ≡ world.old)) }
+{
+    note(world, regs, answer, bytes)?;
+    regs[RAX] = answer;
+    Ok(())
+}
+
+// Records a call with this answer.
+fn note(world: &mut World, regs: &[u64; 16], answer: u64, bytes: Bytes) -> Result<(), OutOfMemory>
+    ensures ok { OnOk result (world.new ≡ recorded_call regs.now answer bytes world.old) }
+    ensures err { OnErr result (world.new ≡ world.old) }
+{
+    world.events.push(Event {
+        number: regs[RAX],
+        args: [regs[RDI], regs[RSI], regs[RDX]],
+        answer,
+        bytes,
+    })
+}
+
+// The answer for an error number.
+fn negative(number: u64) -> u64
+    ensures { result ≡ negative_of number }
+{
+    0u64.wrapping_sub(number)
+}

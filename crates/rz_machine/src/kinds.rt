@@ -1,0 +1,28 @@
+//! What an instruction says of the one that is begun after it.
+
+ghost use Rattle.std.specs.Prelude.{◌≡◌};
+ghost use Rattle.rz_machine.specs.Insn.{kind_of, target_of};
+
+use crate::insn::{Insn, Kind};
+
+/// How an instruction goes on.
+pub fn kind(insn: &Insn) -> Kind
+    ensures { result ≡ kind_of insn.now }
+{
+    match insn {
+        Insn::Mov { .. } => Kind::Plain,
+        Insn::Jmp { .. } => Kind::Jmp,
+        Insn::Syscall => Kind::Syscall,
+        Insn::Ud2 => Kind::Halt,
+    }
+}
+
+/// The address that a direct transfer names; none where the instruction is no direct transfer.
+pub fn target(insn: &Insn) -> Option<u64>
+    ensures { result ≡ target_of insn.now }
+{
+    match insn {
+        Insn::Jmp { target } => Some(*target),
+        Insn::Mov { .. } | Insn::Syscall | Insn::Ud2 => None,
+    }
+}

@@ -1,0 +1,9 @@
+//! Laws over the definitions.
+
+ghost use Rattle.std.specs.Prelude.{◌≡◌, ℕ};
+
+/// A scratch law.
+pub fn fragments_keep()
+    ensures { (n : ℕ) → n ≡ n }
+{
+}
