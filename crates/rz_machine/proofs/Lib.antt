@@ -6,3 +6,8 @@ pub mod StartCode
 pub mod TraceLaws
 pub mod RecordedLaws
 pub mod MemoryTurns
+pub mod Accepted
+pub mod HeaderLaws
+pub mod ThinLaws
+pub mod Worked
+pub mod WrittenLaws

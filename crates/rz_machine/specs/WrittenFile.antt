@@ -5,6 +5,7 @@ use Rattle.rz_num.specs.Page.{page_up}
 use Rattle.rz_machine.specs.declared.memory.Perm.{Perm}
 use Rattle.rz_machine.specs.declared.memory.Region.{Region}
 use Rattle.rz_machine.specs.declared.trace.Record.{Record}
+pub use Rattle.rz_machine.specs.declared.elf_write.Parts.{Parts}
 use Rattle.rz_machine.specs.Memory.{Regions, Range, IsInside, whole_region, zeros}
 use Rattle.rz_machine.specs.Elf.{Segment, segments, is_load, is_stack, has_flag, fault_of, Image, image_of}
 use Rattle.rz_machine.specs.Insn.{Decoder}
@@ -43,13 +44,6 @@ header_bytes entry count =
     ++ (little_bytes 2 64
     ++ (little_bytes 2 0
     ++ little_bytes 2 0))))))))))))
-
--- the parts that are added: the address of the first, and the bytes of those that have bytes
-pub record Parts : Type 0 where
-  pub base : ℕ
-  pub tables : List ℕ
-  pub code : List ℕ
-  pub stubs : List ℕ
 
 -- a load whose bytes stand whole at an offset of the file
 abbrev pub added_segment : ℕ → ℕ → ℕ → ℕ → ℕ → Segment

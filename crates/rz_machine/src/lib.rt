@@ -6,6 +6,8 @@ pub mod decode;
 pub mod elf;
 pub mod encode;
 pub mod first;
+pub mod elf_law;
+pub mod elf_write;
 pub mod flags;
 pub mod insn;
 pub mod items;
