@@ -67,7 +67,7 @@ fn sequence(
 fn label(edges: &EdgeSet, from: u64, to: u64) -> Label
     ensures { result ≡ to_label edges.now from to }
 {
-    if edges.contains(from, to) {
+    if edges.contains((from, to)) {
         Label::Place(to)
     } else {
         Label::Stub(from)
