@@ -15,6 +15,7 @@ pub mod WrittenFile
 pub mod Thin
 pub mod Rewritable
 pub mod Fragments
+pub mod Pace
 pub mod LeftCode
 pub mod Traced
 pub mod TableLaws

@@ -4,10 +4,10 @@
 pub mod call;
 pub mod decode;
 pub mod elf;
-pub mod encode;
-pub mod first;
 pub mod elf_law;
 pub mod elf_write;
+pub mod encode;
+pub mod first;
 pub mod flags;
 pub mod insn;
 pub mod items;

@@ -1,0 +1,107 @@
+-- Registers stay sixteen words below 2^64.
+use Rattle.std.proofs.Common.{◌≡◌, ℕ, zero, suc, ◌+◌, ◌-◌, ◌%◌, ◌^◌, ◌<◌, ◌≤◌, true, false, List, [], ◌∷◌, length, get_or, set, min, Option, Some, None, refl, ◌∙◌, arith, length-set, subst}
+use Rattle.std.specs.List.{AllByRecursion}
+use Rattle.rz_num.specs.declared.width.Width.{Width}
+use Rattle.rz_num.specs.declared.width.Width.TheVariants.{W8, W16, W32, W64}
+use Rattle.rz_num.specs.Width.{size}
+use Rattle.rz_machine.specs.declared.flags.Flags.{Flags}
+use Rattle.rz_machine.specs.declared.insn.Reg.TheVariants.{R}
+use Rattle.rz_machine.specs.declared.insn.Place.TheVariants as place
+use Rattle.rz_machine.specs.declared.insn.Operand.TheVariants.{Imm}
+use Rattle.rz_machine.specs.declared.insn.Insn.{Insn}
+use Rattle.rz_machine.specs.declared.insn.Insn.TheVariants as insn
+use Rattle.rz_machine.specs.declared.decode.Decoded.{Decoded}
+use Rattle.rz_machine.specs.declared.decode.Decoded.TheVariants as decoded
+use Rattle.rz_machine.specs.declared.machine.End.{End}
+use Rattle.rz_machine.specs.declared.machine.Machine.{Machine}
+use Rattle.rz_machine.specs.declared.sys.Reply.{Reply}
+use Rattle.rz_machine.specs.declared.sys.Reply.TheVariants.{Full, AtMost, Error}
+use Rattle.rz_machine.specs.declared.sys.World.{World}
+use Rattle.rz_machine.specs.Memory.{Regions, wrap}
+use Rattle.rz_machine.specs.Insn.{Decoder, IsNamed}
+use Rattle.rz_machine.specs.Effect.{carry, read_words, written}
+use Rattle.rz_machine.specs.Answer.{Called, Call, Write, NoFile, Exit, Other, answer, answer_as, call_in, cut_count, write_allowed, write_reply, next_reply, negative}
+use Rattle.rz_machine.specs.State.{step, after, act, perform, running, after_exit, regs_after, flags_word, bit_of, decoded_at}
+
+-- a word of 64 bits
+abbrev pub IsWord : ℕ → Type 0
+IsWord v = v < 2 ^ 64
+
+-- sixteen words
+pub record AreRegs (regs : List ℕ) : Type 0 where
+  pub sixteen : length regs ≡ 16
+  pub words : AllByRecursion IsWord regs
+
+set_words : (regs : List ℕ) (i v : ℕ) → AllByRecursion IsWord regs → IsWord v → AllByRecursion IsWord (set regs i v)
+set_words [] i v h w = h
+set_words (x ∷ xs) zero v h w = (w, h.1)
+set_words (x ∷ xs) (suc i) v h w = (h.0, set_words xs i v h.1 w)
+
+get_word : (regs : List ℕ) (i : ℕ) → AllByRecursion IsWord regs → IsWord (get_or regs i 0)
+get_word [] i h = omega arith
+get_word (x ∷ xs) zero h = h.0
+get_word (x ∷ xs) (suc i) h = get_word xs i h.1
+
+-- a register set to a word
+pub set_regs : (regs : List ℕ) (i v : ℕ) → AreRegs regs → IsWord v → AreRegs (set regs i v)
+set_regs regs i v h w = record { sixteen = length-set regs i v ∙ h.sixteen; words = set_words regs i v h.words w }
+
+-- a value of a width put into a word
+written_word : (w : Width) (old v : ℕ) → IsWord old → v < size w → IsWord (written w old v)
+written_word W8 old v h k = omega arith
+written_word W16 old v h k = omega arith
+written_word W32 old v h k = omega arith
+written_word W64 old v h k = omega arith
+
+flags_fit : (f : Flags) → IsWord (flags_word f)
+flags_fit f =
+    let a = bit f.cf 1 in let b = bit f.pf 4 in let c = bit f.af 16 in let d = bit f.zf 64 in let e = bit f.sf 128 in let g = bit f.df 1024 in let h = bit f.of 2048 in
+    omega arith
+  where
+    bit : (b : _) (n : ℕ) → bit_of b n ≤ n
+    bit true n = omega arith
+    bit false n = omega arith
+
+-- what a call answers
+answer_word : (regs : List ℕ) (m : Regions) (w : World) → IsWord (answer regs m w).answer
+unfolding answer
+answer_word regs m w = go (call_in regs) _ _ _
+  where
+    sent : (r : Reply) (at n : ℕ) → n ≤ 0x7ffff000 → IsWord (write_reply r at n m w).answer
+    sent Full at n h = omega arith
+    sent (AtMost k) at n h = omega arith
+    sent (Error e) at n h = omega arith
+
+    send : (o : Option ℕ) (at n : ℕ) → n ≤ 0x7ffff000 → IsWord (write_allowed o at n m w).answer
+    send None at n h = sent (next_reply w.replies) at n h
+    send (Some bad) at n h = omega arith
+
+    go : (c : Call) (a b n : ℕ) → IsWord (answer_as c a b n m w).answer
+    go Write a b n = send _ b (cut_count n) (omega arith)
+    go NoFile a b n = omega arith
+    go Exit a b n = omega arith
+    go Other a b n = omega arith
+
+-- one step of an instruction that is fit for the machine
+pub step_regs : (dec : Decoder) (s : Machine) → ((x : Insn) (len : ℕ) → decoded_at dec s ≡ decoded.Insn x len → IsNamed x) → AreRegs s.cpu.regs → AreRegs (step dec s).cpu.regs
+unfolding step carry read_words
+step_regs dec s named h = run s.end
+  where
+    call : (o : Option ℕ) (c : Called) (next : ℕ) → IsWord c.answer → IsWord next → AreRegs (after_exit o c next s).cpu.regs
+    call (Some status) c next a n = h
+    call None c next a n = set_regs _ 11 _ (set_regs _ 1 _ (set_regs s.cpu.regs 0 _ h a) n) (flags_fit s.cpu.flags)
+
+    does : (x : Insn) (next : ℕ) → IsNamed x → IsWord next → AreRegs (perform x next s).cpu.regs
+    does (insn.Mov w (place.Reg (R dst)) (Imm imm)) next x n = set_regs s.cpu.regs dst _ h (written_word w _ imm (get_word s.cpu.regs dst h.words) x.1)
+    does (insn.Jmp target) next x n = h
+    does insn.Ud2 next x n = h
+    does insn.Syscall next x n = call _ (answer s.cpu.regs s.mem s.world) next (answer_word s.cpu.regs s.mem s.world) n
+
+    acts : (d : Decoded) → ((x : Insn) (len : ℕ) → d ≡ decoded.Insn x len → IsNamed x) → AreRegs (act d s).cpu.regs
+    acts (decoded.Insn x len) fit = does x (wrap (s.cpu.rip + len)) (fit x len refl) (omega arith)
+    acts decoded.Short fit = h
+    acts decoded.Unknown fit = h
+
+    run : (o : Option End) → AreRegs (running o dec s).cpu.regs
+    run None = acts (decoded_at dec s) named
+    run (Some why) = h
