@@ -9,6 +9,7 @@ pub mod CodeLaws
 pub mod OneForm
 pub mod RegLaws
 pub mod Runs
+pub mod LongRuns
 pub mod Placed
 pub mod Comes
 pub mod SetLaws
@@ -16,3 +17,9 @@ pub mod StartCode
 pub mod TraceLaws
 pub mod RecordedLaws
 pub mod MemoryTurns
+pub mod Calls
+pub mod Runs
+pub mod LongRuns
+pub mod Zeros
+pub mod ThinFiles
+pub mod Loads

@@ -22,3 +22,5 @@ pub mod TableLaws
 pub mod FirstLaws
 pub mod Left
 pub mod Ran
+pub mod Loaded
+pub mod ThinPage

@@ -15,6 +15,8 @@ pub mod law;
 pub mod kinds;
 pub mod machine;
 pub mod memory;
+pub mod start;
 pub mod sys;
 pub mod table;
+pub mod thin;
 pub mod trace;
