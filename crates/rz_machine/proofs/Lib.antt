@@ -18,8 +18,6 @@ pub mod TraceLaws
 pub mod RecordedLaws
 pub mod MemoryTurns
 pub mod Calls
-pub mod Runs
-pub mod LongRuns
 pub mod Zeros
 pub mod ThinFiles
 pub mod Loads
