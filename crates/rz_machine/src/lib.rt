@@ -6,6 +6,7 @@ pub mod decode;
 pub mod elf;
 pub mod elf_law;
 pub mod elf_write;
+pub mod encode;
 pub mod first;
 pub mod flags;
 pub mod insn;
