@@ -105,18 +105,18 @@ stubs_few n h = omega arith
 -- parts of these sizes below a thin file's code
 fit_below : (code_len stubs_len entry : ℕ) (p : Parts) → code_len % 4096 ≡ 0 → 0 < code_len → code_len ≤ 2101248 → stubs_len % 4096 ≡ 0 → 0 < stubs_len → stubs_len ≤ 1572864 → p.base ≡ (parts_below 4096 code_len stubs_len thin_base).scratch → length p.tables ≡ 4096 → length p.code ≡ code_len → length p.stubs ≡ stubs_len → (parts_below 4096 code_len stubs_len thin_base).code ≤ entry → entry < (parts_below 4096 code_len stubs_len thin_base).stubs → PartsFit p entry
 fit_below code_len stubs_len entry p a b c d e f base tables code stubs from below = record {
-    base_paged = omega arith;
-    base_low = omega arith;
-    tables_paged = omega arith;
-    tables_some = omega arith;
-    code_paged = omega arith;
-    code_some = omega arith;
-    stubs_paged = omega arith;
-    stubs_some = omega arith;
-    ends = omega arith;
-    entry_from = omega arith;
-    entry_below = omega arith;
-  }
+  base_paged = omega arith;
+  base_low = omega arith;
+  tables_paged = omega arith;
+  tables_some = omega arith;
+  code_paged = omega arith;
+  code_some = omega arith;
+  stubs_paged = omega arith;
+  stubs_some = omega arith;
+  ends = omega arith;
+  entry_from = omega arith;
+  entry_below = omega arith;
+}
 
 pub parts_fit : (nodes : List ℕ) (p : Parts) (entry : ℕ) → 1 ≤ length nodes → length nodes ≤ 65536 → IsAdded (thin_added (length nodes)) nodes p entry → PartsFit p entry
 parts_fit nodes p entry some few h =

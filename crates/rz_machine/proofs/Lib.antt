@@ -9,6 +9,7 @@ pub mod CodeLaws
 pub mod OneForm
 pub mod RegLaws
 pub mod WholeRuns
+pub mod Runs
 pub mod Placed
 pub mod Comes
 pub mod Fragment
@@ -21,6 +22,12 @@ pub mod StartCode
 pub mod TraceLaws
 pub mod RecordedLaws
 pub mod MemoryTurns
+pub mod TraceTurns
+pub mod Calls
+pub mod RunTurns
+pub mod Zeros
+pub mod ThinFiles
+pub mod Loads
 pub mod Parts
 pub mod KeepsWritten
 pub mod RewrittenLaws

@@ -3,7 +3,7 @@ use Rattle.std.specs.Prelude.{ℕ, List, [], ◌∷◌, ◌++◌, set, Option, S
 use Rattle.rz_machine.specs.declared.sys.World.{World}
 use Rattle.rz_machine.specs.Answer.{rax, rdi, rsi, rdx, Called}
 
-abbrev answer_put : Option ℕ → List ℕ → ℕ → List ℕ
+abbrev pub answer_put : Option ℕ → List ℕ → ℕ → List ℕ
 answer_put None regs ans = set regs 0 ans
 answer_put (Some status) regs ans = regs
 

@@ -24,4 +24,7 @@ pub mod TableLaws
 pub mod FirstLaws
 pub mod Left
 pub mod Ran
+pub mod Loaded
+pub mod ThinPage
 pub mod Rewritten
+pub mod Recorded

@@ -1,7 +1,7 @@
 //! ELF-64 files (System V gABI, chapters 4 and 5).
 
 use crate::memory::Perm;
-use rz_num::Bytes;
+use rz_num::{Bytes, OutOfMemory};
 use std::marker::Model;
 use thiserror::Error;
 
@@ -91,6 +91,24 @@ impl Model for Loads {
     ghost view = { λ l. l.items.items };
 }
 
+impl Loads {
+    ghost use Rattle.std.specs.Prelude.{◌≡◌};
+
+    /// The loads of a vector, in its own memory.
+    pub fn from_vec(items: Vec<Load>) -> Loads
+        ensures { result ≡ items.items }
+    {
+        Loads { items }
+    }
+
+    /// The loads as a slice.
+    pub fn as_slice(&self) -> &[Load]
+        ensures { result.now ≡ self.now }
+    {
+        self.items.as_slice()
+    }
+}
+
 /// A file and what is loaded of it.
 #[derive(Drop)]
 pub struct Elf {
@@ -99,4 +117,24 @@ pub struct Elf {
     pub entry: u64,
     /// The address where the heap begins: the end of the highest load, rounded up to a page.
     pub first_break: u64,
+}
+
+/// Why a file isn't read.
+#[derive(Clone, Copy, PartialEq, Eq, Debug, Error)]
+pub enum ElfError {
+    #[error("{0}")]
+    Fault(ElfFault),
+    #[error("out of memory")]
+    OutOfMemory,
+}
+
+impl From<OutOfMemory> for ElfError {
+    ghost use Rattle.std.specs.Prelude.{◌≡◌};
+    ghost use Rattle.rz_machine.specs.declared.elf.ElfError.TheVariants as error;
+
+    ghost from_gives = { λ _ e. e ≡ error.OutOfMemory };
+
+    fn from(_: OutOfMemory) -> ElfError {
+        ElfError::OutOfMemory
+    }
 }

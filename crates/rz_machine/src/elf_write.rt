@@ -31,18 +31,24 @@ const THIN_BASE: u64 = 0x401000;
 const IDENTITY: [u8; 16] = *b"\x7fELF\x02\x01\x01\0\0RZSTUB1";
 
 const ET_EXEC: u16 = 2;
+
 const EM_X86_64: u16 = 62;
+
 const EV_CURRENT: u32 = 1;
 
 /// The sizes of the file header, of a program header and of a section header, in bytes.
 const HEADER_SIZE: u16 = 64;
+
 const SEGMENT_SIZE: u16 = 56;
+
 const SECTION_SIZE: u16 = 64;
 
 const PT_LOAD: u32 = 1;
 
 const PF_X: u32 = 1;
+
 const PF_W: u32 = 2;
+
 const PF_R: u32 = 4;
 
 /// The written file of a thin file, with the added parts and an entry. It refuses for want of memory alone.
@@ -255,3 +261,6 @@ fn push_u64(out: &mut Vec<u8>, value: u64) -> Result<(), OutOfMemory>
     out.extend_from_slice(&value.to_le_bytes())?;
     Ok(())
 }
+
+#[cfg(test)]
+mod tests;

@@ -66,7 +66,7 @@ pub enum Outcome {
 }
 
 impl Machine {
-    ghost use Rattle.std.specs.Prelude.{◌≡◌, ◌≤◌, ℕ, OnOk, OnErr, IfOk};
+    ghost use Rattle.std.specs.Prelude.{◌≡◌, ◌<◌, ℕ, OnOk, OnErr, IfOk};
     ghost use Rattle.rz_machine.specs.State.{step as step_of, after as after_of, perform as perform_of, after_call};
     ghost use Rattle.rz_machine.specs.Answer.{answer};
     ghost use Rattle.rz_machine.specs.Insn.{IsNamed};
@@ -108,18 +108,25 @@ impl Machine {
     pub fn run<T: InsnTable>(&mut self, alloc: Global, n: u64) -> Result<Outcome, OutOfMemory>
         ensures ok { OnOk result (self.new ≡ after_of T.decoder n self.old) }
         ensures outcome { IfOk result (λ outcome. outcome ≡ outcome_of self.new.end) }
-        ensures err { OnErr result ((k : ℕ) × (k ≤ n) × (self.new ≡ after_of T.decoder k self.old)) }
+        ensures err { OnErr result ((k : ℕ) × (k < n) × (self.new ≡ after_of T.decoder k self.old)) }
     {
         for _ in 0..n {
             if self.end.is_some() {
-                break;
+                return Ok(self.outcome());
             }
             self.step::<T>(alloc)?;
         }
-        Ok(match self.end {
+        Ok(self.outcome())
+    }
+
+    /// Whether the run has ended, and how.
+    pub fn outcome(&self) -> Outcome
+        ensures { result ≡ outcome_of self.now.end }
+    {
+        match self.end {
             Some(end) => Outcome::Ended(end),
             None => Outcome::Running,
-        })
+        }
     }
 
     // An instruction before `next`.

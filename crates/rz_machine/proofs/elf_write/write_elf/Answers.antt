@@ -21,7 +21,7 @@ returns c =
     let filled : fill ≡ page_up (length c.args.original.now) - length c.args.original.now = rw (c.page_up.ensures, c.as_slice-file.ensures.value) refl in
     c.from_vec.ensures
     ∙ appended (header_page segs c.args.entry) file (zeros fill) c.as_slice-tables.result.now c.as_slice-code.result.now c.as_slice-stubs.result.now
-      c.in_ok-out.out.items c.push_header_page.new.out.items c.extend_from_slice.new.self.items c.push_zeros.new.out.items c.extend_from_slice-2.new.self.items c.extend_from_slice-3.new.self.items c.extend_from_slice-4.new.self.items
-      c.in_ok-out.ensures.items c.in_ok-push_header_page.ensures c.in_ok-extend_from_slice.ensures.items c.in_ok-push_zeros.ensures c.in_ok-extend_from_slice-2.ensures.items c.in_ok-extend_from_slice-3.ensures.items c.in_ok-extend_from_slice-4.ensures.items
+    c.in_ok-out.out.items c.push_header_page.new.out.items c.extend_from_slice.new.self.items c.push_zeros.new.out.items c.extend_from_slice-2.new.self.items c.extend_from_slice-3.new.self.items c.extend_from_slice-4.new.self.items
+    c.in_ok-out.ensures.items c.in_ok-push_header_page.ensures c.in_ok-extend_from_slice.ensures.items c.in_ok-push_zeros.ensures c.in_ok-extend_from_slice-2.ensures.items c.in_ok-extend_from_slice-3.ensures.items c.in_ok-extend_from_slice-4.ensures.items
     ∙ same_file c.args.original.now c.args.parts.now c.args.entry segs file c.as_slice-tables.result.now c.as_slice-code.result.now c.as_slice-stubs.result.now fill
-      c.new_segments-segments.ensures c.as_slice-file.ensures.value filled c.as_slice-tables.ensures.value c.as_slice-code.ensures.value c.as_slice-stubs.ensures.value
+    c.new_segments-segments.ensures c.as_slice-file.ensures.value filled c.as_slice-tables.ensures.value c.as_slice-code.ensures.value c.as_slice-stubs.ensures.value

@@ -1,0 +1,16 @@
+use Rattle.std.proofs.Common.{◌≡◌, ◌∙◌, sym, ap, refl, arith}
+use Rattle.rz_machine.specs.State.{step, after}
+use Rattle.rz_machine.proofs.RunTurns.{after-long, after-next}
+use Rattle.rz_machine.proofs.machine.Machine.run.Goals as goal
+
+pub loop-init : goal.loop-init
+unfolding after
+loop-init g c = refl
+
+pub returns-then-is_some-clause-ok : goal.returns-then-is_some-clause-ok
+returns-then-is_some-clause-ok g c =
+    after-long g.T.InsnTable.decoder c.loop.counter c.args.n c.args.self.now c.loop.self c.loop.invariant (omega arith) (sym c.is_some.ensures ∙ c.if-is_some.true)
+
+pub loop-preserved : goal.loop-preserved
+loop-preserved g c =
+    c.in_ok-step.ensures.ok ∙ ap (step g.T.InsnTable.decoder) c.loop.invariant ∙ sym (after-next g.T.InsnTable.decoder c.loop.counter c.args.self.now)

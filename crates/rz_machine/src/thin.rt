@@ -1,0 +1,132 @@
+//! Thin files: one load of code at 0x401000, with every header field fixed.
+
+ghost use Rattle.std.specs.Prelude.{◌≡◌, ◌==◌, [], ◌∷◌, ◌↔◌, ◌<◌, ◌≤◌, ◌^◌, ◌⊎◌, length, IsTrue, IfOk, IfErr, IsErrOf};
+ghost use Rattle.std.specs.List.{list_all};
+ghost use Rattle.rz_machine.specs.WrittenFile.{segment_bytes};
+ghost use Rattle.rz_machine.specs.Thin.{IsThin, thin_header, thin_segment};
+ghost use Rattle.rz_machine.specs.Loaded.{IsLoadable, thin_elf, thin_load};
+ghost use Rattle.rz_machine.specs.ThinPage.{has_thin_page};
+
+use crate::elf::{Elf, ElfError, ElfFault, Load, Loads};
+use crate::memory::Perm;
+use rz_num::{Bytes, OutOfMemory, page_up, put_u16, put_u32, put_u64};
+use std::alloc::Global;
+
+/// Where the code stands, which is the entry too.
+const BASE: u64 = 0x40_1000;
+
+/// Where the code begins in the file.
+const CODE_AT: usize = 4096;
+
+/// The most bytes of code.
+const MOST_CODE: usize = 65_536;
+
+/// A file with its magic number, 64 bits, the low byte first, of version 1.
+const IDENTITY: [u8; 7] = [0x7f, b'E', b'L', b'F', 2, 1, 1];
+
+/// Reads a thin file. The fault is `Unbuilt`, exactly where the file isn't thin.
+pub fn read_thin(alloc: Global, bytes: Bytes) -> Result<Elf, ElfError>
+    ensures thin { IfOk result (λ elf. IsThin bytes) }
+    ensures elf { IfOk result (λ elf. elf ≡ thin_elf bytes) }
+    ensures loadable { IfOk result IsLoadable }
+    ensures unbuilt { IsErrOf result (ElfError.Fault ElfFault.Unbuilt) ↔ (¬ IsThin bytes) }
+    ensures only { IfErr result (λ e. (e ≡ ElfError.Fault ElfFault.Unbuilt) ⊎ (e ≡ ElfError.OutOfMemory)) }
+{
+    let file = bytes.as_slice();
+    if !is_thin(file) {
+        return Err(ElfError::Fault(ElfFault::Unbuilt));
+    }
+    let size = (file.len() - CODE_AT) as u64;
+    let loads = thin_loads(alloc, size)?;
+    Ok(Elf {
+        bytes,
+        loads,
+        entry: BASE,
+        first_break: page_up(BASE + size),
+    })
+}
+
+// The load of a thin file whose code has `size` bytes.
+fn thin_loads(alloc: Global, size: u64) -> Result<Loads, OutOfMemory>
+    ensures { IfOk result (λ loads. loads ≡ thin_load size ∷ []) }
+{
+    let mut items = Vec::new(alloc);
+    items.push(Load {
+        at: BASE,
+        size,
+        file_at: CODE_AT as u64,
+        file_size: size,
+        align: 4096,
+        perm: Perm {
+            read: true,
+            write: false,
+            execute: true,
+        },
+        index: 0,
+    })?;
+    Ok(Loads::from_vec(items))
+}
+
+/// Whether a file is thin.
+pub fn is_thin(bytes: &[u8]) -> bool
+    ensures thin { IsTrue result ↔ IsThin bytes.now }
+    ensures some { IsTrue result → 4096 < length bytes.now }
+    ensures few { IsTrue result → length bytes.now ≤ 69632 }
+{
+    if bytes.len() <= CODE_AT {
+        return false;
+    }
+    if bytes.len() > CODE_AT + MOST_CODE {
+        return false;
+    }
+    has_header_page(bytes)
+}
+
+// Whether the first page is that of a thin file of this length.
+fn has_header_page(bytes: &[u8]) -> bool
+    requires { 4096 < length bytes.now }
+    ensures { result ≡ has_thin_page bytes.now }
+{
+    let size = (bytes.len() - CODE_AT) as u64;
+    bytes.starts_with(&file_header())
+        && bytes[64..].starts_with(&program_header(size))
+        && are_zeros(&bytes[120..CODE_AT])
+}
+
+fn are_zeros(bytes: &[u8]) -> bool
+    ensures { result ≡ list_all (λ b. b == 0) bytes.now }
+{
+    bytes.iter().all(|b| *b == 0)
+}
+
+fn file_header() -> [u8; 64]
+    ensures { result ≡ thin_header }
+{
+    let mut header = [0; 64];
+    header[..7].copy_from_slice(&IDENTITY);
+    put_u16(&mut header, 16, 2); // an executable file
+    put_u16(&mut header, 18, 62); // for x86-64
+    put_u32(&mut header, 20, 1); // of version 1
+    put_u64(&mut header, 24, BASE); // the entry
+    put_u64(&mut header, 32, 64); // where the program headers begin
+    put_u16(&mut header, 52, 64); // the size of this header
+    put_u16(&mut header, 54, 56); // the size of a program header
+    put_u16(&mut header, 56, 1); // how many there are
+    header
+}
+
+// The program header of the code.
+fn program_header(size: u64) -> [u8; 56]
+    ensures { result ≡ segment_bytes (thin_segment size) }
+{
+    let mut header = [0; 56];
+    put_u32(&mut header, 0, 1); // a load
+    put_u32(&mut header, 4, 5); // that may be read and executed
+    put_u64(&mut header, 8, CODE_AT as u64);
+    put_u64(&mut header, 16, BASE);
+    put_u64(&mut header, 24, BASE);
+    put_u64(&mut header, 32, size);
+    put_u64(&mut header, 40, size);
+    put_u64(&mut header, 48, 4096); // the alignment
+    header
+}
