@@ -1,12 +1,11 @@
 -- What is read of headers is what was written.
-use Rattle.std.proofs.Common.{◌≡◌, ℕ, zero, suc, ◌+◌, ◌-◌, ◌*◌, ◌/◌, ◌%◌, ◌^◌, ◌<◌, ◌≤◌, List, [], ◌∷◌, ◌++◌, length, take, drop, refl, sym, ap, ◌∙◌, arith}
+use Rattle.std.proofs.Common.{◌≡◌, ℕ, ◌^◌, ◌<◌, List, [], ◌∷◌, ◌++◌, length, drop, refl}
 use Rattle.std.specs.Prelude.{flat_map}
 use Rattle.std.specs.List.{AllByRecursion}
-use Rattle.std.proofs.lemmas.List.{append_assoc}
 use Rattle.byteorder.specs.Endian.{little_bytes, little_number}
 use Rattle.byteorder.specs.Numbers.{little_number-reads_back}
-use Rattle.rz_machine.specs.Elf.{Segment, segment_of, segments_of, segments, file_header, FileHeader, field}
-use Rattle.rz_machine.specs.WrittenFile.{segment_bytes, header_bytes}
+use Rattle.rz_machine.specs.Elf.{Segment, segment_of, segments_of}
+use Rattle.rz_machine.specs.WrittenFile.{segment_bytes}
 
 -- the fields of a program header fit their places
 pub record IsEncodable (s : Segment) : Type 0 where

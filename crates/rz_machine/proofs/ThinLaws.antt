@@ -1,17 +1,16 @@
 -- A thin file is accepted, and what is loaded of it is its code.
-use Rattle.std.proofs.Common.{◌≡◌, ℕ, zero, suc, ◌+◌, ◌-◌, ◌*◌, ◌/◌, ◌%◌, ◌^◌, ◌<◌, ◌≤◌, Bool, true, false, max, List, [], ◌∷◌, ◌++◌, length, take, drop, map, replicate, Option, Some, None, refl, sym, ap, ap₂, ◌∙◌, arith}
-use Rattle.std.specs.Prelude.{sum_by, filter}
-use Rattle.std.specs.List.{AllByRecursion, list_any, starts_with}
-use Rattle.std.proofs.lemmas.List.{append-nil, append_assoc, length-append, length-replicate, drop_at, take_all}
+use Rattle.std.proofs.Common.{◌≡◌, ℕ, ◌+◌, ◌-◌, ◌≤◌, true, max, List, [], ◌∷◌, ◌++◌, length, drop, map, None, refl, sym, ap, ◌∙◌, arith}
+use Rattle.std.specs.List.{list_any}
+use Rattle.std.proofs.lemmas.List.{append-nil, length-append, length-replicate, drop_at, take_all}
 use Rattle.std.proofs.lemmas.Bool.Decides.{nat_tests}
 use Rattle.rz_num.specs.Page.{page_up}
 use Rattle.rz_machine.specs.declared.memory.Region.{Region}
 use Rattle.rz_machine.specs.Memory.{zeros}
-use Rattle.rz_machine.specs.Elf.{Segment, segments, is_load, loads, file_header, FileHeader, field, has_entry, fault_of, load_bytes, load_region, highest_end, Image, image_of}
-use Rattle.rz_machine.specs.WrittenFile.{segment_bytes, read_execute, moved, kept_segments}
-use Rattle.rz_machine.specs.Thin.{thin_base, thin_segment, thin_header, thin_file, IsThin}
+use Rattle.rz_machine.specs.Elf.{Segment, segments, is_load, file_header, FileHeader, has_entry, fault_of, load_bytes, load_region, Image, image_of}
+use Rattle.rz_machine.specs.WrittenFile.{read_execute, moved, kept_segments}
+use Rattle.rz_machine.specs.Thin.{thin_base, thin_segment, thin_file, IsThin}
 use Rattle.rz_machine.proofs.HeaderLaws.{IsEncodable, segments_of-segment_bytes}
-use Rattle.rz_machine.proofs.Accepted.{IsGoodLoad, AreGoodLoads, is_load-good, executable_header, HasGoodHeaders, loads-good, fault_of_none}
+use Rattle.rz_machine.proofs.Accepted.{IsGoodLoad, is_load-good, executable_header, HasGoodHeaders, loads-good, fault_of_none}
 
 pub length-zeros : (n : ℕ) → length (zeros n) ≡ n
 unfolding zeros

@@ -1,7 +1,4 @@
-use Rattle.std.proofs.Common.{◌≡◌, ◌+◌, ◌-◌, ◌≤◌, List, [], ◌∷◌, ◌++◌, length, refl}
-use Rattle.rz_num.specs.Page.{page_up}
-use Rattle.rz_machine.specs.WrittenFile.{added_segments, kept_segments, moved, new_segments}
-use Rattle.rz_machine.specs.Thin.{thin_segment}
+use Rattle.std.proofs.Common.{refl}
 use Rattle.rz_machine.proofs.ThinLaws.{thin_long, thin_kept_by_length}
 use Rattle.rz_machine.proofs.elf_write.new_segments.Goals as goal
 
