@@ -21,3 +21,6 @@ pub mod sys;
 pub mod table;
 pub mod thin;
 pub mod trace;
+
+#[cfg(test)]
+mod trace_tests;
