@@ -21,3 +21,5 @@ pub mod RunTurns
 pub mod Zeros
 pub mod ThinFiles
 pub mod Loads
+pub mod ThinLoads
+pub mod Hello

@@ -36,15 +36,15 @@ thin_file_header code = refl
 
 thin_encodable : (n : ℕ) → n ≤ 65536 → IsEncodable (thin_segment n)
 thin_encodable n h = record {
-    kind = omega arith;
-    flags = omega arith;
-    offset = omega arith;
-    vaddr = omega arith;
-    paddr = omega arith;
-    filesz = omega arith;
-    memsz = omega arith;
-    align = omega arith;
-  }
+  kind = omega arith;
+  flags = omega arith;
+  offset = omega arith;
+  vaddr = omega arith;
+  paddr = omega arith;
+  filesz = omega arith;
+  memsz = omega arith;
+  align = omega arith;
+}
 
 pub thin_segments : (code : List ℕ) → length code ≤ 65536 → segments (thin_file code) ≡ thin_segment (length code) ∷ []
 unfolding thin_file
@@ -52,17 +52,17 @@ thin_segments code h = segments_of-segment_bytes (thin_segment (length code) ∷
 
 thin_load_good : (n len : ℕ) → 1 ≤ n → n ≤ 65536 → 4096 + n ≤ len → IsGoodLoad len (thin_segment n)
 thin_load_good n len h k l = record {
-    kind = refl;
-    sized = omega arith;
-    readable = omega arith;
-    harmless = omega arith;
-    small = omega arith;
-    stored = omega arith;
-    align = refl;
-    aligned = refl;
-    low = omega arith;
-    high = omega arith;
-  }
+  kind = refl;
+  sized = omega arith;
+  readable = omega arith;
+  harmless = omega arith;
+  small = omega arith;
+  stored = omega arith;
+  align = refl;
+  aligned = refl;
+  low = omega arith;
+  high = omega arith;
+}
 
 thin_entered : (n : ℕ) → 1 ≤ n → list_any (has_entry thin_base) (thin_segment n ∷ []) ≡ true
 thin_entered n h = grind (arith, nat_tests)

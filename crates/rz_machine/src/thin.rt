@@ -2,9 +2,10 @@
 
 ghost use Rattle.std.specs.Prelude.{◌≡◌, ◌==◌, [], ◌∷◌, ◌↔◌, ◌<◌, ◌≤◌, ◌^◌, ◌⊎◌, length, IsTrue, IfOk, IfErr, IsErrOf};
 ghost use Rattle.std.specs.List.{list_all};
+ghost use Rattle.rz_machine.specs.Elf.{fault_of, image_of};
 ghost use Rattle.rz_machine.specs.WrittenFile.{segment_bytes};
 ghost use Rattle.rz_machine.specs.Thin.{IsThin, thin_header, thin_segment};
-ghost use Rattle.rz_machine.specs.Loaded.{IsLoadable, thin_elf, thin_load};
+ghost use Rattle.rz_machine.specs.Loaded.{IsLoadable, loaded, thin_elf, thin_load};
 ghost use Rattle.rz_machine.specs.ThinPage.{has_thin_page};
 
 use crate::elf::{Elf, ElfError, ElfFault, Load, Loads};
@@ -29,6 +30,8 @@ pub fn read_thin(alloc: Global, bytes: Bytes) -> Result<Elf, ElfError>
     ensures thin { IfOk result (λ elf. IsThin bytes) }
     ensures elf { IfOk result (λ elf. elf ≡ thin_elf bytes) }
     ensures loadable { IfOk result IsLoadable }
+    ensures accepted { IfOk result (λ elf. fault_of bytes ≡ None) }
+    ensures image { IfOk result (λ elf. loaded elf ≡ image_of bytes) }
     ensures unbuilt { IsErrOf result (ElfError.Fault ElfFault.Unbuilt) ↔ (¬ IsThin bytes) }
     ensures only { IfErr result (λ e. (e ≡ ElfError.Fault ElfFault.Unbuilt) ⊎ (e ≡ ElfError.OutOfMemory)) }
 {
