@@ -9,7 +9,6 @@ pub mod CodeLaws
 pub mod OneForm
 pub mod RegLaws
 pub mod WholeRuns
-pub mod Runs
 pub mod Placed
 pub mod Comes
 pub mod Fragment
@@ -34,3 +33,5 @@ pub mod RewrittenLaws
 pub mod PlainNodes
 pub mod ThinKept
 pub mod PlainAccepted
+pub mod ThinLoads
+pub mod Hello
