@@ -10,7 +10,6 @@ ghost use Rattle.rz_machine.specs.Rewritten.{RewrittenKeeps, RewrittenPaced, Fra
 /// A file whose parts hold the fragments and the stubs of the kept nodes keeps each run of the original, with
 /// one to three steps for each step of it.
 pub fn fragments_keep()
-<<<<<<< HEAD
     ensures keeps { RewrittenKeeps decode_first }
     ensures paced { RewrittenPaced decode_first 3 }
 {
@@ -36,7 +35,3 @@ pub fn accepted_files_are_plain()
     ensures { (x : List ℕ) → AllByRecursion (λ b. b < 256) x → fault_of x ≡ None → IsPlainImage (image_of x) }
 {
 }
-=======
-    ensures { (n : ℕ) → n ≡ n }
-{}
->>>>>>> 899a604368d450e9213d45139b485668222c8dfb
