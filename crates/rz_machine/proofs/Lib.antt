@@ -34,4 +34,4 @@ pub mod PlainNodes
 pub mod ThinKept
 pub mod PlainAccepted
 pub mod ThinLoads
-pub mod Hello
+pub mod GreetingRuns
