@@ -124,7 +124,7 @@ against_good len test p h k = go p.before p.segment (is_load-good len p.segment 
 header_good : (len : ℕ) (ps : List Placed) → AllByRecursion (IsGoodPlaced len) ps → NoneHolds (header_conditions len ps)
 header_good len ps h =
     let by : (test : Placed → Bool) (name : ℕ → ElfFault) → ((p : Placed) → IsGoodPlaced len p → test p ≡ false) → NoneHolds (each test name ps) =
-        λ test name t. NoneHolds-each (IsGoodPlaced len) test name t ps h in
+    λ test name t. NoneHolds-each (IsGoodPlaced len) test name t ps h in
     NoneHolds-append _ _ (by (of_segment is_dynamic) fault.Dynamic (λ p g. not_dynamic len p.segment g.load))
     (NoneHolds-append _ _ (by (of_segment is_stack_code) fault.StackCode (λ p g. not_stack_code len p.segment g.load))
     (NoneHolds-append _ _ (by (of_segment has_other_flags) fault.Flags (λ p g. no_other_flags len p.segment g.load))
@@ -165,20 +165,43 @@ file_good x segs entry h =
     let long = h.short in
     let whole = h.whole in
     let few = h.few in
-    let some = h.some in
-    ( grind (arith, nat_tests)
-    , (grind (arith, nat_tests)
-    , (rw (h.magic) refl
-    , (rw (h.class) refl
-    , (rw (h.order) refl
-    , (rw (h.version, ap (λ (f : FileHeader). f.version) h.header) refl
-    , (rw (ap (λ (f : FileHeader). f.file_type) h.header) refl
-    , (rw (ap (λ (f : FileHeader). f.machine) h.header) refl
-    , (rw (ap (λ (f : FileHeader). f.header_size) h.header) refl
-    , (rw (ap (λ (f : FileHeader). f.entry_size) h.header) refl
-    , (rw (ap (λ (f : FileHeader). f.count) h.header) (grind (arith, nat_tests))
-    , (rw (ap (λ (f : FileHeader). f.count) h.header, ap (λ (f : FileHeader). f.table_at) h.header) (grind (arith, nat_tests))
-    , tt))))))))))))
+    let some = h.some in (
+      grind (arith, nat_tests),
+      (
+        grind (arith, nat_tests),
+        (
+          rw (h.magic) refl,
+          (
+            rw (h.class) refl,
+            (
+              rw (h.order) refl,
+              (
+                rw (h.version, ap (λ (f : FileHeader). f.version) h.header) refl,
+                (
+                  rw (ap (λ (f : FileHeader). f.file_type) h.header) refl,
+                  (
+                    rw (ap (λ (f : FileHeader). f.machine) h.header) refl,
+                    (
+                      rw (ap (λ (f : FileHeader). f.header_size) h.header) refl,
+                      (
+                        rw (ap (λ (f : FileHeader). f.entry_size) h.header) refl,
+                        (
+                          rw (ap (λ (f : FileHeader). f.count) h.header) (grind (arith, nat_tests)),
+                          (
+                            rw (ap (λ (f : FileHeader). f.count) h.header, ap (λ (f : FileHeader). f.table_at) h.header) (grind (arith, nat_tests)),
+                            tt,
+                          ),
+                        ),
+                      ),
+                    ),
+                  ),
+                ),
+              ),
+            ),
+          ),
+        ),
+      ),
+    )
 
 loads_entered : (x : List ℕ) (segs : List Segment) (entry : ℕ) → HasGoodHeaders x segs entry → NoneHolds (load_conditions (file_header x).entry (loads x))
 loads_entered x segs entry h =

@@ -31,15 +31,15 @@ half v h = little_number-reads_back 2 v [] h
 -- the program header that was written first
 pub segment_of-segment_bytes : (s : Segment) (rest : List ℕ) → IsEncodable s → segment_of (segment_bytes s ++ rest) ≡ s
 segment_of-segment_bytes s rest h = λ i. record {
-    kind = word s.kind h.kind i;
-    flags = word s.flags h.flags i;
-    offset = long s.offset h.offset i;
-    vaddr = long s.vaddr h.vaddr i;
-    paddr = long s.paddr h.paddr i;
-    filesz = long s.filesz h.filesz i;
-    memsz = long s.memsz h.memsz i;
-    align = long s.align h.align i;
-  }
+  kind = word s.kind h.kind i;
+  flags = word s.flags h.flags i;
+  offset = long s.offset h.offset i;
+  vaddr = long s.vaddr h.vaddr i;
+  paddr = long s.paddr h.paddr i;
+  filesz = long s.filesz h.filesz i;
+  memsz = long s.memsz h.memsz i;
+  align = long s.align h.align i;
+}
 
 drop-segment_bytes : (s : Segment) (rest : List ℕ) → drop 56 (segment_bytes s ++ rest) ≡ rest
 drop-segment_bytes s rest = refl

@@ -8,7 +8,8 @@ use Rattle.rz_machine.specs.declared.memory.Region.{Region}
 use Rattle.rz_machine.specs.Memory.{Regions, RegionsFit, zeros}
 use Rattle.rz_machine.specs.Start.{heap_region, stack_region, stack_bytes, first_rsp, empty_input}
 use Rattle.rz_machine.specs.Loaded.{loaded_region, IsLoad, IsLoadable}
-use Rattle.rz_machine.proofs.Zeros.{length-zeros, zeros-append-zeros}
+use Rattle.rz_machine.proofs.ThinLaws.{length-zeros}
+use Rattle.rz_machine.proofs.Zeros.{zeros-append-zeros}
 
 -- each of the loads is one
 pub load_at : (P : Load → Type 0) (ls : List Load) (i : ℕ) (d : Load) → AllByRecursion P ls → i < length ls → P (get_or ls i d)

@@ -9,7 +9,8 @@ use Rattle.rz_machine.specs.Memory.{zeros}
 use Rattle.rz_machine.specs.WrittenFile.{segment_bytes}
 use Rattle.rz_machine.specs.Thin.{thin_header, thin_segment, thin_file, IsThin}
 use Rattle.rz_machine.specs.ThinPage.{has_thin_page}
-use Rattle.rz_machine.proofs.Zeros.{length-zeros, zeros-pass, zeros-where_pass}
+use Rattle.rz_machine.proofs.ThinLaws.{length-zeros, length-thin_file}
+use Rattle.rz_machine.proofs.Zeros.{zeros-pass, zeros-where_pass}
 
 abbrev program_header : ℕ → List ℕ
 program_header n = segment_bytes (thin_segment n)
@@ -40,12 +41,6 @@ thin_where_page x low high h =
       few = omega arith;
       file = head ∙ ap (λ l. thin_header ++ l) (next ∙ ap (λ l. program_header n ++ l) rest ∙ ap (λ k. program_header k ++ (zeros 3976 ++ code)) (sym len));
     }
-
-length-thin_file : (code : List ℕ) → length (thin_file code) ≡ 4096 + length code
-unfolding thin_file
-length-thin_file code =
-    let e : length (zeros 3976 ++ code) ≡ 3976 + length code = length-append (zeros 3976) code ∙ ap (λ n. n + length code) (length-zeros 3976) in
-    omega (arith, e)
 
 page_of : (code : List ℕ) (n : ℕ) → n ≡ length code → has_thin_page (thin_file code) ≡ true
 unfolding thin_file

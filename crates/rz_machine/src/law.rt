@@ -1,9 +1,19 @@
-//! Laws over the definitions.
+//! Laws over the definitions alone.
 
-ghost use Rattle.std.specs.Prelude.{◌≡◌, ℕ};
+ghost use Rattle.rz_machine.specs.First.{decode_first};
+ghost use Rattle.rz_machine.specs.Rewritten.{RewrittenKeeps, RewrittenPaced, FragmentsFit, PlacesInCode};
 
-/// A scratch law.
+/// A file whose parts hold the fragments and the stubs of the kept nodes keeps each run of the original, with
+/// one to three steps for each step of it.
 pub fn fragments_keep()
-    ensures { (n : ℕ) → n ≡ n }
+    ensures keeps { RewrittenKeeps decode_first }
+    ensures paced { RewrittenPaced decode_first 3 }
+{
+}
+
+/// The fragments fit the code part, and that of the entry lies in it.
+pub fn fragments_fit()
+    ensures fit { FragmentsFit decode_first }
+    ensures inside { PlacesInCode decode_first }
 {
 }

@@ -16,6 +16,7 @@ pub mod kinds;
 pub mod machine;
 pub mod memory;
 pub mod start;
+pub mod segment;
 pub mod sys;
 pub mod table;
 pub mod thin;

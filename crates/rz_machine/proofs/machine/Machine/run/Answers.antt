@@ -1,6 +1,6 @@
 use Rattle.std.proofs.Common.{◌≡◌, ◌∙◌, sym, ap, refl, arith}
 use Rattle.rz_machine.specs.State.{step, after}
-use Rattle.rz_machine.proofs.LongRuns.{after-long, after-suc}
+use Rattle.rz_machine.proofs.RunTurns.{after-long, after-next}
 use Rattle.rz_machine.proofs.machine.Machine.run.Goals as goal
 
 pub loop-init : goal.loop-init
@@ -13,4 +13,4 @@ returns-then-is_some-clause-ok g c =
 
 pub loop-preserved : goal.loop-preserved
 loop-preserved g c =
-    c.in_ok-step.ensures.ok ∙ ap (step g.T.InsnTable.decoder) c.loop.invariant ∙ sym (after-suc g.T.InsnTable.decoder c.loop.counter c.args.self.now)
+    c.in_ok-step.ensures.ok ∙ ap (step g.T.InsnTable.decoder) c.loop.invariant ∙ sym (after-next g.T.InsnTable.decoder c.loop.counter c.args.self.now)
