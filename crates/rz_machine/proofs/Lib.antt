@@ -32,3 +32,5 @@ pub mod Parts
 pub mod KeepsWritten
 pub mod RewrittenLaws
 pub mod PlainNodes
+pub mod ThinKept
+pub mod PlainAccepted
