@@ -1,3 +1,5 @@
+pub mod FragmentLaws
+pub mod FragmentSteps
 pub mod Placed
 pub mod Rank
 pub mod Trimmed
