@@ -1,12 +1,12 @@
 -- When a file has no fault: one fact for each condition.
-use Rattle.std.proofs.Common.{◌≡◌, ℕ, zero, suc, ◌+◌, ◌-◌, ◌*◌, ◌/◌, ◌%◌, ◌^◌, ◌<◌, ◌≤◌, Bool, true, false, not, ◌&&◌, ◌||◌, if◌then◌else◌, nat_lt, nat_le, ◌==◌, List, [], ◌∷◌, ◌++◌, length, Option, Some, None, refl, sym, ap, ap₂, ◌∙◌, arith}
-use Rattle.std.specs.Prelude.{sum_by, filter, map, nat_eq, count_ones}
+use Rattle.std.proofs.Common.{◌≡◌, ℕ, suc, ◌+◌, ◌*◌, ◌%◌, ◌<◌, ◌≤◌, Bool, true, false, List, [], ◌∷◌, ◌++◌, length, Option, Some, None, refl, ap, arith}
+use Rattle.std.specs.Prelude.{sum_by, filter, nat_eq, count_ones}
 use Rattle.std.specs.Int.Count.{ones, ones_in, ones_cat}
 use Rattle.std.specs.List.{AllByRecursion, list_any, starts_with}
 use Rattle.std.proofs.lemmas.Bool.Decides.{nat_tests}
 use Rattle.rz_machine.specs.declared.elf.ElfFault.{ElfFault}
 use Rattle.rz_machine.specs.declared.elf.ElfFault.TheVariants as fault
-use Rattle.rz_machine.specs.Elf.{Segment, segments, is_load, is_stack, loads, file_header, FileHeader, field, Placed, placed_from, placed, against, Condition, first_of, each, of_segment, is_dynamic, is_stack_code, has_other_flags, is_writable_code, is_larger_in_file, leaves_file, is_misaligned, is_far, isnt_above, shares_page, has_entry, page, last_page, file_conditions, header_conditions, load_conditions, fault_of}
+use Rattle.rz_machine.specs.Elf.{Segment, segments, is_load, loads, file_header, FileHeader, field, Placed, placed_from, placed, against, Condition, first_of, each, of_segment, is_dynamic, is_stack_code, has_other_flags, is_writable_code, is_larger_in_file, leaves_file, is_misaligned, is_far, isnt_above, shares_page, has_entry, page, last_page, file_conditions, header_conditions, load_conditions, fault_of}
 
 -- no condition of the list holds
 abbrev pub NoneHolds : List Condition → Type 0
@@ -124,7 +124,7 @@ against_good len test p h k = go p.before p.segment (is_load-good len p.segment 
 header_good : (len : ℕ) (ps : List Placed) → AllByRecursion (IsGoodPlaced len) ps → NoneHolds (header_conditions len ps)
 header_good len ps h =
     let by : (test : Placed → Bool) (name : ℕ → ElfFault) → ((p : Placed) → IsGoodPlaced len p → test p ≡ false) → NoneHolds (each test name ps) =
-        λ test name t. NoneHolds-each (IsGoodPlaced len) test name t ps h in
+    λ test name t. NoneHolds-each (IsGoodPlaced len) test name t ps h in
     NoneHolds-append _ _ (by (of_segment is_dynamic) fault.Dynamic (λ p g. not_dynamic len p.segment g.load))
     (NoneHolds-append _ _ (by (of_segment is_stack_code) fault.StackCode (λ p g. not_stack_code len p.segment g.load))
     (NoneHolds-append _ _ (by (of_segment has_other_flags) fault.Flags (λ p g. no_other_flags len p.segment g.load))
@@ -165,20 +165,43 @@ file_good x segs entry h =
     let long = h.short in
     let whole = h.whole in
     let few = h.few in
-    let some = h.some in
-    ( grind (arith, nat_tests)
-    , (grind (arith, nat_tests)
-    , (rw (h.magic) refl
-    , (rw (h.class) refl
-    , (rw (h.order) refl
-    , (rw (h.version, ap (λ (f : FileHeader). f.version) h.header) refl
-    , (rw (ap (λ (f : FileHeader). f.file_type) h.header) refl
-    , (rw (ap (λ (f : FileHeader). f.machine) h.header) refl
-    , (rw (ap (λ (f : FileHeader). f.header_size) h.header) refl
-    , (rw (ap (λ (f : FileHeader). f.entry_size) h.header) refl
-    , (rw (ap (λ (f : FileHeader). f.count) h.header) (grind (arith, nat_tests))
-    , (rw (ap (λ (f : FileHeader). f.count) h.header, ap (λ (f : FileHeader). f.table_at) h.header) (grind (arith, nat_tests))
-    , tt))))))))))))
+    let some = h.some in (
+      grind (arith, nat_tests),
+      (
+        grind (arith, nat_tests),
+        (
+          rw (h.magic) refl,
+          (
+            rw (h.class) refl,
+            (
+              rw (h.order) refl,
+              (
+                rw (h.version, ap (λ (f : FileHeader). f.version) h.header) refl,
+                (
+                  rw (ap (λ (f : FileHeader). f.file_type) h.header) refl,
+                  (
+                    rw (ap (λ (f : FileHeader). f.machine) h.header) refl,
+                    (
+                      rw (ap (λ (f : FileHeader). f.header_size) h.header) refl,
+                      (
+                        rw (ap (λ (f : FileHeader). f.entry_size) h.header) refl,
+                        (
+                          rw (ap (λ (f : FileHeader). f.count) h.header) (grind (arith, nat_tests)),
+                          (
+                            rw (ap (λ (f : FileHeader). f.count) h.header, ap (λ (f : FileHeader). f.table_at) h.header) (grind (arith, nat_tests)),
+                            tt,
+                          ),
+                        ),
+                      ),
+                    ),
+                  ),
+                ),
+              ),
+            ),
+          ),
+        ),
+      ),
+    )
 
 loads_entered : (x : List ℕ) (segs : List Segment) (entry : ℕ) → HasGoodHeaders x segs entry → NoneHolds (load_conditions (file_header x).entry (loads x))
 loads_entered x segs entry h =

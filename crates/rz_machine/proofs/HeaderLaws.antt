@@ -1,12 +1,11 @@
 -- What is read of headers is what was written.
-use Rattle.std.proofs.Common.{◌≡◌, ℕ, zero, suc, ◌+◌, ◌-◌, ◌*◌, ◌/◌, ◌%◌, ◌^◌, ◌<◌, ◌≤◌, List, [], ◌∷◌, ◌++◌, length, take, drop, refl, sym, ap, ◌∙◌, arith}
+use Rattle.std.proofs.Common.{◌≡◌, ℕ, ◌^◌, ◌<◌, List, [], ◌∷◌, ◌++◌, length, drop, refl}
 use Rattle.std.specs.Prelude.{flat_map}
 use Rattle.std.specs.List.{AllByRecursion}
-use Rattle.std.proofs.lemmas.List.{append_assoc}
 use Rattle.byteorder.specs.Endian.{little_bytes, little_number}
 use Rattle.byteorder.specs.Numbers.{little_number-reads_back}
-use Rattle.rz_machine.specs.Elf.{Segment, segment_of, segments_of, segments, file_header, FileHeader, field}
-use Rattle.rz_machine.specs.WrittenFile.{segment_bytes, header_bytes}
+use Rattle.rz_machine.specs.Elf.{Segment, segment_of, segments_of}
+use Rattle.rz_machine.specs.WrittenFile.{segment_bytes}
 
 -- the fields of a program header fit their places
 pub record IsEncodable (s : Segment) : Type 0 where
@@ -31,15 +30,15 @@ half v h = little_number-reads_back 2 v [] h
 -- the program header that was written first
 pub segment_of-segment_bytes : (s : Segment) (rest : List ℕ) → IsEncodable s → segment_of (segment_bytes s ++ rest) ≡ s
 segment_of-segment_bytes s rest h = λ i. record {
-    kind = word s.kind h.kind i;
-    flags = word s.flags h.flags i;
-    offset = long s.offset h.offset i;
-    vaddr = long s.vaddr h.vaddr i;
-    paddr = long s.paddr h.paddr i;
-    filesz = long s.filesz h.filesz i;
-    memsz = long s.memsz h.memsz i;
-    align = long s.align h.align i;
-  }
+  kind = word s.kind h.kind i;
+  flags = word s.flags h.flags i;
+  offset = long s.offset h.offset i;
+  vaddr = long s.vaddr h.vaddr i;
+  paddr = long s.paddr h.paddr i;
+  filesz = long s.filesz h.filesz i;
+  memsz = long s.memsz h.memsz i;
+  align = long s.align h.align i;
+}
 
 drop-segment_bytes : (s : Segment) (rest : List ℕ) → drop 56 (segment_bytes s ++ rest) ≡ rest
 drop-segment_bytes s rest = refl

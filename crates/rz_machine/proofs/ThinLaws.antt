@@ -1,17 +1,16 @@
 -- A thin file is accepted, and what is loaded of it is its code.
-use Rattle.std.proofs.Common.{◌≡◌, ℕ, zero, suc, ◌+◌, ◌-◌, ◌*◌, ◌/◌, ◌%◌, ◌^◌, ◌<◌, ◌≤◌, Bool, true, false, max, List, [], ◌∷◌, ◌++◌, length, take, drop, map, replicate, Option, Some, None, refl, sym, ap, ap₂, ◌∙◌, arith}
-use Rattle.std.specs.Prelude.{sum_by, filter}
-use Rattle.std.specs.List.{AllByRecursion, list_any, starts_with}
-use Rattle.std.proofs.lemmas.List.{append-nil, append_assoc, length-append, length-replicate, drop_at, take_all}
+use Rattle.std.proofs.Common.{◌≡◌, ℕ, ◌+◌, ◌-◌, ◌≤◌, true, max, List, [], ◌∷◌, ◌++◌, length, drop, map, None, refl, sym, ap, ◌∙◌, arith}
+use Rattle.std.specs.List.{list_any}
+use Rattle.std.proofs.lemmas.List.{append-nil, length-append, length-replicate, drop_at, take_all}
 use Rattle.std.proofs.lemmas.Bool.Decides.{nat_tests}
 use Rattle.rz_num.specs.Page.{page_up}
 use Rattle.rz_machine.specs.declared.memory.Region.{Region}
 use Rattle.rz_machine.specs.Memory.{zeros}
-use Rattle.rz_machine.specs.Elf.{Segment, segments, is_load, loads, file_header, FileHeader, field, has_entry, fault_of, load_bytes, load_region, highest_end, Image, image_of}
-use Rattle.rz_machine.specs.WrittenFile.{segment_bytes, read_execute, moved, kept_segments}
-use Rattle.rz_machine.specs.Thin.{thin_base, thin_segment, thin_header, thin_file}
+use Rattle.rz_machine.specs.Elf.{Segment, segments, is_load, file_header, FileHeader, has_entry, fault_of, load_bytes, load_region, Image, image_of}
+use Rattle.rz_machine.specs.WrittenFile.{read_execute, moved, kept_segments}
+use Rattle.rz_machine.specs.Thin.{thin_base, thin_segment, thin_file, IsThin}
 use Rattle.rz_machine.proofs.HeaderLaws.{IsEncodable, segments_of-segment_bytes}
-use Rattle.rz_machine.proofs.Accepted.{IsGoodLoad, AreGoodLoads, is_load-good, executable_header, HasGoodHeaders, loads-good, fault_of_none}
+use Rattle.rz_machine.proofs.Accepted.{IsGoodLoad, is_load-good, executable_header, HasGoodHeaders, loads-good, fault_of_none}
 
 pub length-zeros : (n : ℕ) → length (zeros n) ≡ n
 unfolding zeros
@@ -36,15 +35,15 @@ thin_file_header code = refl
 
 thin_encodable : (n : ℕ) → n ≤ 65536 → IsEncodable (thin_segment n)
 thin_encodable n h = record {
-    kind = omega arith;
-    flags = omega arith;
-    offset = omega arith;
-    vaddr = omega arith;
-    paddr = omega arith;
-    filesz = omega arith;
-    memsz = omega arith;
-    align = omega arith;
-  }
+  kind = omega arith;
+  flags = omega arith;
+  offset = omega arith;
+  vaddr = omega arith;
+  paddr = omega arith;
+  filesz = omega arith;
+  memsz = omega arith;
+  align = omega arith;
+}
 
 pub thin_segments : (code : List ℕ) → length code ≤ 65536 → segments (thin_file code) ≡ thin_segment (length code) ∷ []
 unfolding thin_file
@@ -52,17 +51,17 @@ thin_segments code h = segments_of-segment_bytes (thin_segment (length code) ∷
 
 thin_load_good : (n len : ℕ) → 1 ≤ n → n ≤ 65536 → 4096 + n ≤ len → IsGoodLoad len (thin_segment n)
 thin_load_good n len h k l = record {
-    kind = refl;
-    sized = omega arith;
-    readable = omega arith;
-    harmless = omega arith;
-    small = omega arith;
-    stored = omega arith;
-    align = refl;
-    aligned = refl;
-    low = omega arith;
-    high = omega arith;
-  }
+  kind = refl;
+  sized = omega arith;
+  readable = omega arith;
+  harmless = omega arith;
+  small = omega arith;
+  stored = omega arith;
+  align = refl;
+  aligned = refl;
+  low = omega arith;
+  high = omega arith;
+}
 
 thin_entered : (n : ℕ) → 1 ≤ n → list_any (has_entry thin_base) (thin_segment n ∷ []) ≡ true
 thin_entered n h = grind (arith, nat_tests)
@@ -92,6 +91,11 @@ abbrev pub kept_segment : ℕ → Segment
 kept_segment n =
     record { kind = 1; flags = 4; offset = 8192; vaddr = thin_base; paddr = thin_base; filesz = n; memsz = n; align = 4096 }
 
+thin_moved : (code : List ℕ) → 1 ≤ length code → length code ≤ 65536 → kept_segments (thin_file code) ≡ moved (thin_segment (length code)) ∷ []
+thin_moved code h k =
+    let l : is_load (thin_segment (length code)) ≡ true = is_load-good (4096 + length code) (thin_segment (length code)) (thin_load_good (length code) (4096 + length code) h k (omega arith)) in
+    rw (thin_segments code k, l, l) refl
+
 pub thin_kept : (code : List ℕ) → 1 ≤ length code → length code ≤ 65536 → kept_segments (thin_file code) ≡ kept_segment (length code) ∷ []
 thin_kept code h k =
     let l : is_load (thin_segment (length code)) ≡ true = is_load-good (4096 + length code) (thin_segment (length code)) (thin_load_good (length code) (4096 + length code) h k (omega arith)) in
@@ -120,3 +124,14 @@ thin_image code h k =
     let e : (file_header (thin_file code)).entry ≡ thin_base = ap (λ (f : FileHeader). f.entry) (thin_file_header code) in
     let m : max (thin_base + length code) 0 ≡ thin_base + length code = omega arith in
     rw (l, e) (λ i. record { loads = thin_loads code i; entry = thin_base; first_break = page_up (m i) })
+
+pub thin_long : (x : List ℕ) → IsThin x → 4096 ≤ length x
+thin_long x h = let l = length-thin_file h.code in let e = ap length h.file in omega arith
+
+-- what a written file keeps of the program headers of a thin file, by its length
+pub thin_kept_by_length : (x : List ℕ) → IsThin x → kept_segments x ≡ moved (thin_segment (length x - 4096)) ∷ []
+thin_kept_by_length x h =
+    let l = length-thin_file h.code in
+    let e = ap length h.file in
+    let d : length x - 4096 ≡ length h.code = omega arith in
+    ap kept_segments h.file ∙ (thin_moved h.code h.some h.few ∙ ap (λ (n : ℕ). moved (thin_segment n) ∷ []) (sym d))

@@ -1,19 +1,17 @@
 -- The written file of a thin file is accepted, and what is loaded of it is the new image.
-use Rattle.std.proofs.Common.{◌≡◌, ℕ, zero, suc, ◌+◌, ◌-◌, ◌*◌, ◌/◌, ◌%◌, ◌^◌, ◌<◌, ◌≤◌, Bool, true, false, max, List, [], ◌∷◌, ◌++◌, length, take, drop, map, Option, Some, None, refl, sym, ap, ap₂, ◌∙◌, subst, arith}
+use Rattle.std.proofs.Common.{◌≡◌, ℕ, ◌+◌, ◌-◌, ◌*◌, ◌%◌, ◌^◌, ◌<◌, ◌≤◌, true, List, [], ◌∷◌, ◌++◌, length, drop, map, None, refl, sym, ap, ◌∙◌, subst, arith}
 use Rattle.std.specs.Prelude.{sum_by, flat_map, nat_eq}
 use Rattle.std.specs.List.{AllByRecursion, list_any, starts_with}
 use Rattle.std.proofs.lemmas.List.{append-nil, append_assoc, length-append, drop_at, drop-drop, drop-append-le, take_at}
 use Rattle.std.proofs.lemmas.Bool.Decides.{nat_tests}
-use Rattle.byteorder.specs.Endian.{little_bytes, little_number}
 use Rattle.rz_num.specs.Page.{page_up}
-use Rattle.rz_machine.specs.declared.memory.Region.{Region}
-use Rattle.rz_machine.specs.Memory.{Regions, zeros, whole_region}
+use Rattle.rz_machine.specs.Memory.{zeros, whole_region}
 use Rattle.rz_machine.specs.Added.{scratch_size}
-use Rattle.rz_machine.specs.Elf.{Segment, segments, segments_of, loads, file_header, FileHeader, field, has_entry, fault_of, perm_of, load_bytes, load_region, highest_end, Image, image_of}
-use Rattle.rz_machine.specs.WrittenFile.{Parts, segment_bytes, header_bytes, header_page, added_segment, added_segments, kept_segments, new_segments, written_file, added_regions, read_only, read_write, read_execute, without_code, new_image}
+use Rattle.rz_machine.specs.Elf.{Segment, segments, segments_of, file_header, FileHeader, field, has_entry, fault_of, perm_of, load_bytes, load_region, highest_end, Image, image_of}
+use Rattle.rz_machine.specs.WrittenFile.{Parts, segment_bytes, header_bytes, header_page, added_segment, added_segments, new_segments, written_file, added_regions, read_write, without_code, new_image}
 use Rattle.rz_machine.specs.Thin.{thin_base, thin_file}
-use Rattle.rz_machine.proofs.HeaderLaws.{IsEncodable, segments_of-segment_bytes, word, long, half}
-use Rattle.rz_machine.proofs.Accepted.{IsGoodLoad, IsPast, AreGoodLoads, executable_header, HasGoodHeaders, loads-good, fault_of_none}
+use Rattle.rz_machine.proofs.HeaderLaws.{IsEncodable, segments_of-segment_bytes, long}
+use Rattle.rz_machine.proofs.Accepted.{IsGoodLoad, AreGoodLoads, executable_header, HasGoodHeaders, loads-good, fault_of_none}
 use Rattle.rz_machine.proofs.ThinLaws.{length-zeros, zeros-none, length-thin_file, drop-thin_file, kept_segment, thin_kept, code_region, code_image, thin_image}
 
 -- parts of whole pages that end where a thin file's code begins, and an entry in the code part
@@ -56,15 +54,15 @@ written_paged code p entry h k = ap (λ (segs : List Segment). header_page segs 
 paged_header : (segs : List Segment) (entry : ℕ) (rest : List ℕ) → entry < 2 ^ 64 → file_header (paged_file segs entry rest) ≡ executable_header entry 5
 unfolding paged_file
 paged_header segs entry rest h = λ i. record {
-    file_type = 2;
-    machine = 62;
-    version = 1;
-    entry = long entry h i;
-    table_at = 64;
-    header_size = 64;
-    entry_size = 56;
-    count = 5;
-  }
+  file_type = 2;
+  machine = 62;
+  version = 1;
+  entry = long entry h i;
+  table_at = 64;
+  header_size = 64;
+  entry_size = 56;
+  count = 5;
+}
 
 paged_magic : (segs : List Segment) (entry : ℕ) (rest : List ℕ) → starts_with nat_eq (paged_file segs entry rest) (0x7f ∷ 0x45 ∷ 0x4c ∷ 0x46 ∷ []) ≡ true
 unfolding paged_file
@@ -167,17 +165,17 @@ scratch_good n len p entry fit =
 -- a part that begins on a page and has bytes
 part_good : (len flags offset at size : ℕ) → 4 ≤ flags → flags ≤ 6 → 0 < size → offset + size ≤ len → offset % 4096 ≡ 0 → at % 4096 ≡ 0 → 0x10000 ≤ at → at + size ≤ 0x70000000 → IsGoodLoad len (added_segment flags offset at size size)
 part_good len flags offset at size h k l m n o p q = record {
-    kind = refl;
-    sized = l;
-    readable = h;
-    harmless = k;
-    small = omega arith;
-    stored = m;
-    align = refl;
-    aligned = o ∙ sym n;
-    low = p;
-    high = q;
-  }
+  kind = refl;
+  sized = l;
+  readable = h;
+  harmless = k;
+  small = omega arith;
+  stored = m;
+  align = refl;
+  aligned = o ∙ sym n;
+  low = p;
+  high = q;
+}
 
 loads_good_at : (n len : ℕ) (p : Parts) (entry : ℕ) → 1 ≤ n → n ≤ 65536 → PartsFit p entry → len ≡ written_size n p → AreGoodLoads len None (written_segments n p)
 loads_good_at n len p entry h k fit long =
@@ -200,30 +198,39 @@ loads_good_at n len p entry h k fit long =
     let at2 : (p.base + 4096 + t + c) % 4096 ≡ 0 = omega arith in
     let of0 : tables_at n % 4096 ≡ 0 = omega arith in
     let of1 : (tables_at n + t) % 4096 ≡ 0 = omega arith in
-    let of2 : (tables_at n + t + c) % 4096 ≡ 0 = omega arith in
-    ( scratch_good n len p entry fit
-    , tt
-    , ( part_good len 4 (tables_at n) (p.base + 4096) t (omega arith) (omega arith) t0 (omega arith) of0 at0 (omega arith) (omega arith)
-      , record { sized = omega arith; past = omega arith; paged = at0 }
-      , ( part_good len 5 (tables_at n + t) (p.base + 4096 + t) c (omega arith) (omega arith) c0 (omega arith) of1 at1 (omega arith) (omega arith)
-        , record { sized = t0; past = omega arith; paged = at1 }
-        , ( part_good len 5 (tables_at n + t + c) (p.base + 4096 + t + c) s (omega arith) (omega arith) s0 (omega arith) of2 at2 (omega arith) (omega arith)
-          , record { sized = c0; past = omega arith; paged = at2 }
-          , ( part_good len 4 8192 thin_base n (omega arith) (omega arith) h (omega arith) refl refl (omega arith) (omega arith)
-            , record { sized = s0; past = omega arith; paged = refl }
-            , tt)))))
+    let of2 : (tables_at n + t + c) % 4096 ≡ 0 = omega arith in (
+      scratch_good n len p entry fit,
+      tt,
+      (
+        part_good len 4 (tables_at n) (p.base + 4096) t (omega arith) (omega arith) t0 (omega arith) of0 at0 (omega arith) (omega arith),
+        record { sized = omega arith; past = omega arith; paged = at0 },
+        (
+          part_good len 5 (tables_at n + t) (p.base + 4096 + t) c (omega arith) (omega arith) c0 (omega arith) of1 at1 (omega arith) (omega arith),
+          record { sized = t0; past = omega arith; paged = at1 },
+          (
+            part_good len 5 (tables_at n + t + c) (p.base + 4096 + t + c) s (omega arith) (omega arith) s0 (omega arith) of2 at2 (omega arith) (omega arith),
+            record { sized = c0; past = omega arith; paged = at2 },
+            (
+              part_good len 4 8192 thin_base n (omega arith) (omega arith) h (omega arith) refl refl (omega arith) (omega arith),
+              record { sized = s0; past = omega arith; paged = refl },
+              tt,
+            ),
+          ),
+        ),
+      ),
+    )
 
 part_encodable : (flags offset at filesz memsz : ℕ) → flags ≤ 6 → offset < 2 ^ 40 → at < 2 ^ 40 → filesz < 2 ^ 40 → memsz < 2 ^ 40 → IsEncodable (added_segment flags offset at filesz memsz)
 part_encodable flags offset at filesz memsz a b c d e = record {
-    kind = omega arith;
-    flags = omega arith;
-    offset = omega arith;
-    vaddr = omega arith;
-    paddr = omega arith;
-    filesz = omega arith;
-    memsz = omega arith;
-    align = omega arith;
-  }
+  kind = omega arith;
+  flags = omega arith;
+  offset = omega arith;
+  vaddr = omega arith;
+  paddr = omega arith;
+  filesz = omega arith;
+  memsz = omega arith;
+  align = omega arith;
+}
 
 encodable_at : (n : ℕ) (p : Parts) (entry : ℕ) → n ≤ 65536 → PartsFit p entry → AllByRecursion IsEncodable (written_segments n p)
 encodable_at n p entry k fit =
@@ -231,13 +238,22 @@ encodable_at n p entry k fit =
     let u = page_up_near (4096 + n) in
     let t = length p.tables in
     let c = length p.code in
-    let s = length p.stubs in
-    ( part_encodable 6 0 p.base 0 4096 (omega arith) (omega arith) (omega arith) (omega arith) (omega arith)
-    , (part_encodable 4 (tables_at n) (p.base + 4096) t t (omega arith) (omega arith) (omega arith) (omega arith) (omega arith)
-    , (part_encodable 5 (tables_at n + t) (p.base + 4096 + t) c c (omega arith) (omega arith) (omega arith) (omega arith) (omega arith)
-    , (part_encodable 5 (tables_at n + t + c) (p.base + 4096 + t + c) s s (omega arith) (omega arith) (omega arith) (omega arith) (omega arith)
-    , (part_encodable 4 8192 thin_base n n (omega arith) (omega arith) (omega arith) (omega arith) (omega arith)
-    , tt)))))
+    let s = length p.stubs in (
+      part_encodable 6 0 p.base 0 4096 (omega arith) (omega arith) (omega arith) (omega arith) (omega arith),
+      (
+        part_encodable 4 (tables_at n) (p.base + 4096) t t (omega arith) (omega arith) (omega arith) (omega arith) (omega arith),
+        (
+          part_encodable 5 (tables_at n + t) (p.base + 4096 + t) c c (omega arith) (omega arith) (omega arith) (omega arith) (omega arith),
+          (
+            part_encodable 5 (tables_at n + t + c) (p.base + 4096 + t + c) s s (omega arith) (omega arith) (omega arith) (omega arith) (omega arith),
+            (
+              part_encodable 4 8192 thin_base n n (omega arith) (omega arith) (omega arith) (omega arith) (omega arith),
+              tt,
+            ),
+          ),
+        ),
+      ),
+    )
 
 code_entered : (at size entry : ℕ) → at ≤ entry → entry < at + size → has_entry entry (added_segment 5 0 at size size) ≡ true
 code_entered at size entry h k = grind (arith, nat_tests)

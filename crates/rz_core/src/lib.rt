@@ -1,0 +1,6 @@
+//! The new file of what is kept: fragments, their places, and their bytes.
+#![tactic(auto)]
+
+pub mod emit;
+pub mod fragment;
+pub mod layout;
