@@ -7,3 +7,5 @@ pub mod FormLaws
 pub mod ReadLaws
 pub mod CauseLaws
 pub mod ExactLaws
+pub mod Lowest
+pub mod MadeLaws

@@ -1,17 +1,7 @@
 -- What a bounded read says of the whole file.
 use Rattle.std.proofs.Common.{◌≡◌, ◌≢◌, ◌==◌, Bool, true, false, eqb-true, eq-eqb, ℕ, ◌+◌, ◌<◌, ◌≤◌, List, [], ◌∷◌, length, take, min, Option, Some, refl, sym, ap, ◌∙◌, subst, arith, take_all, length-take}
 use Rattle.rz_machine.specs.Thin.{thin_file, IsThin}
-use Rattle.std.proofs.Common.{◌++◌}
-use Rattle.std.proofs.lemmas.List.{length-append, length-replicate}
-use Rattle.rz_machine.specs.Memory.{zeros}
-
-length-zeros : (n : ℕ) → length (zeros n) ≡ n
-unfolding zeros
-length-zeros n = length-replicate n 0
-
-length-thin_file : (code : List ℕ) → length (thin_file code) ≡ 4096 + length code
-unfolding thin_file
-length-thin_file code = let a = length-append (zeros 3976) code in let z = length-zeros 3976 in omega arith
+use Rattle.rz_machine.proofs.ThinLaws.{length-thin_file}
 
 -- a thin file is small
 pub thin_small : (x : List ℕ) → IsThin x → length x ≤ 69632

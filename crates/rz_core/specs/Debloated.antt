@@ -8,6 +8,8 @@ use Rattle.rz_machine.specs.Start.{start, empty_input}
 use Rattle.rz_machine.specs.Begun.{recorded}
 use Rattle.rz_machine.specs.LeftCode.{StaysInCode}
 use Rattle.rz_machine.specs.Added.{added, sites, site_edges}
+use Rattle.rz_machine.specs.Keeps.{Keeps}
+use Rattle.rz_machine.specs.Recorded.{IsUncut}
 use Rattle.rz_machine.specs.WrittenFile.{Inert}
 use Rattle.rz_machine.specs.Thin.{IsThin}
 use Rattle.rz_core.specs.Texts.{report_text}
@@ -24,6 +26,10 @@ kept_of limit x = recorded decode_first limit (traced x)
 pub record IsDebloated (limit : ℕ) (x w : List ℕ) : Type 0 where
   pub thin : IsThin x
   pub stays : StaysInCode decode_first limit (traced x)
+  -- each run of w follows x's, up to the first edge that isn't kept
+  pub keeps : Keeps decode_first x w (kept_of limit x)
+  -- the traced run takes no such edge before it ended or its limit came
+  pub uncut : IsUncut decode_first (kept_of limit x).edges (traced x) limit
   pub inert : Inert decode_first x w (kept_of limit x)
 
 -- the report of it

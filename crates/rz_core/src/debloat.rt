@@ -1,19 +1,20 @@
 //! The command `debloat`: what it reads, makes and writes.
 
-ghost use Rattle.std.specs.Prelude.{◌≡◌, ◌≢◌, ◌≤◌, ◌⊎◌, ℕ, List, [], Some, IfOk, IfErr, OnOk, OnErr, IsTrue};
+ghost use Rattle.std.specs.Prelude.{◌≡◌, ◌≢◌, ◌<◌, slice_index, ◌≤◌, ◌⊎◌, ℕ, List, [], Some, IfOk, IfErr, OnOk, OnErr, IsTrue};
 ghost use Rattle.rz_outside.specs.StoreAnswers.{SameFiles, SameOthers, ReadsFirst};
 ghost use Rattle.rz_machine.specs.Thin.{IsThin};
 ghost use Rattle.rz_machine.specs.First.{decode_first};
 ghost use Rattle.rz_machine.specs.LeftCode.{LeavesCode};
 ghost use Rattle.rz_core.specs.Causes.{IsReported, PrepareRefusal, RefusedBy, ReadRefusal, ExecutableRefusal, InputRefusal, WriteRefusal, IsDone, FilesAfterForm, AreRead};
 ghost use Rattle.rz_core.specs.Commands.{words_of};
-ghost use Rattle.rz_core.specs.Making.{IsMade};
+ghost use Rattle.rz_core.specs.Making.{IsMade, IsOfThin};
 ghost use Rattle.rz_core.specs.Debloated.{IsDebloated, traced, report_of};
 
-use crate::making::{ElfError, Made, MakeRefusal, make, read_thin};
+use crate::making::{Made, MakeRefusal, make};
 use crate::status::{Status, Target};
 use crate::words::Debloat;
-use rz_machine::elf::Elf;
+use rz_machine::elf::{Elf, ElfError};
+use rz_machine::thin::read_thin;
 use rz_num::{Bytes, OutOfMemory, Text};
 use rz_outside::{ReadErr, Store, WriteErr};
 use std::alloc::Global;
@@ -55,12 +56,19 @@ fn write<S: Store>(alloc: Global, store: &mut S, name: &Text, bytes: &Bytes) -> 
     }
 }
 
+// Each item of a list of bytes is below 256.
+fn are_bytes(bytes: &Bytes)
+    ensures { (i : ℕ) → slice_index bytes.now i < 256 }
+{
+    let _ = bytes.as_slice();
+}
+
 // The executable, where it is a thin file.
 fn read_executable<S: Store>(alloc: Global, store: &mut S, name: &Text) -> Result<Elf, Status>
     ensures telling { S.told store.new ≡ S.told store.old }
     ensures kept { SameFiles (S.files store.old) (S.files store.new) }
     ensures count { S.faults store.old ≤ S.faults store.new }
-    ensures thin { IfOk result (λ elf. IsThin elf.bytes) }
+    ensures thin { IfOk result IsOfThin }
     ensures read { IfOk result (λ elf. IsTrue (S.told store.old) → S.files store.old name.now ≡ Some elf.bytes) }
     ensures cause { IfErr result (ExecutableRefusal name.now (record { told = S.told store.old; old = S.files store.old; new = S.files store.new; before = S.faults store.old; now = S.faults store.new; failed = S.failed_name store.new })) }
 {
@@ -68,6 +76,7 @@ fn read_executable<S: Store>(alloc: Global, store: &mut S, name: &Text) -> Resul
         return Err(Status::OutOfMemory);
     };
     let bytes = read(alloc, store, name, EXECUTABLE_MAX)?;
+    are_bytes(&bytes);
     match read_thin(alloc, bytes) {
         Ok(elf) => Ok(elf),
         Err(ElfError::Fault(fault)) => Err(Status::Refused { file, fault }),
@@ -93,6 +102,7 @@ fn read_input<S: Store>(alloc: Global, store: &mut S, name: &Text) -> Result<(),
 
 // Reads what the command reads, and makes the new file. No file changes.
 fn prepare<S: Store>(alloc: Global, d: &Debloat<'_>, store: &mut S) -> Result<Made, Status>
+    requires { 1 ≤ d.now.limit }
     ensures telling { S.told store.new ≡ S.told store.old }
     ensures kept { SameFiles (S.files store.old) (S.files store.new) }
     ensures count { S.faults store.old ≤ S.faults store.new }
@@ -110,6 +120,7 @@ fn prepare<S: Store>(alloc: Global, d: &Debloat<'_>, store: &mut S) -> Result<Ma
 
 /// `debloat EXE - exact LIMIT OUT INPUT`: the report, or the refusal.
 pub fn debloat<S: Store>(alloc: Global, d: &Debloat<'_>, store: &mut S) -> Result<Bytes, Status>
+    requires { 1 ≤ d.now.limit }
     ensures telling { S.told store.new ≡ S.told store.old }
     ensures others { SameOthers d.now.out.now (S.files store.old) (S.files store.new) }
     ensures count { S.faults store.old ≤ S.faults store.new }

@@ -56,6 +56,7 @@ fn run_debloat<S: Store, K: Sink>(
     store: &mut S,
     out: &mut K,
 ) -> Status
+    requires { 1 ≤ d.now.limit }
     ensures telling { S.told store.new ≡ S.told store.old }
     ensures store_count { S.faults store.old ≤ S.faults store.new }
     ensures sink_count { K.faults out.old ≤ K.faults out.new }

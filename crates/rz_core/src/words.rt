@@ -18,7 +18,8 @@ pub struct Debloat<'a> {
 
 /// The form that the words have, if any.
 pub fn form(words: &Vec<Text>) -> Option<Debloat<'_>>
-    ensures { MatchOption result (form_of words.now.items ≡ None) (λ d. form_of words.now.items ≡ Some (record { exe = d.exe.now; limit = d.limit; out = d.out.now; input = d.input.now })) }
+    ensures form { MatchOption result (form_of words.now.items ≡ None) (λ d. form_of words.now.items ≡ Some (record { exe = d.exe.now; limit = d.limit; out = d.out.now; input = d.input.now })) }
+    ensures some { IfSome result (λ d. 1 ≤ d.limit) }
 {
     match words.as_slice() {
         [command, exe, classes, level, limit, out, input]
