@@ -8,7 +8,7 @@ pub mod StepLaws
 pub mod CodeLaws
 pub mod OneForm
 pub mod RegLaws
-pub mod WholeRuns
+pub mod Runs
 pub mod Placed
 pub mod Comes
 pub mod Fragment
@@ -33,3 +33,5 @@ pub mod RewrittenLaws
 pub mod PlainNodes
 pub mod ThinKept
 pub mod PlainAccepted
+pub mod ThinLoads
+pub mod GreetingRuns

@@ -108,16 +108,16 @@ module _ (dec : Decoder) (edges : Edges) (lay : Layout) (place bound : ℕ → �
           let f = (each s t a.node a.stand clear).goes runs in
           let there : (after dec f.0 t).cpu.rip ≡ place (step dec s).cpu.rip = f.4 ∙ ap (λ v. if v then place (step dec s).cpu.rip else lay.stub s.cpu.rip) e in
           let stand : Stand lay place xm wm (step dec s) (after dec f.0 t) =
-              record {
-                old_runs = runs;
-                new_runs = f.3;
-                there = there;
-                same = f.5;
-                regs = step_regs dec s (λ y len e. named s.cpu.rip a.node y len (ap (λ bs. dec bs s.cpu.rip) (fetch_same xm s.mem s.cpu.rip 15 a.stand.old_code.same) ∙ e)) a.stand.regs;
-                old_code = step_code xm dec s a.stand.old_code;
-                new_code = after_code wm dec f.0 t a.stand.new_code;
-                perms = after_perms lay.added wm dec f.0 t a.stand.perms;
-              } in
+          record {
+            old_runs = runs;
+            new_runs = f.3;
+            there = there;
+            same = f.5;
+            regs = step_regs dec s (λ y len e. named s.cpu.rip a.node y len (ap (λ bs. dec bs s.cpu.rip) (fetch_same xm s.mem s.cpu.rip 15 a.stand.old_code.same) ∙ e)) a.stand.regs;
+            old_code = step_code xm dec s a.stand.old_code;
+            new_code = after_code wm dec f.0 t a.stand.new_code;
+            perms = after_perms lay.added wm dec f.0 t a.stand.perms;
+          } in
           let old : after dec (suc n) x ≡ step dec s = after-suc dec n x in
           let new : after dec (a.steps + f.0) w ≡ after dec f.0 t = after-+ dec a.steps f.0 w in
           let P : Machine → Type 0 = λ u. IsNode u.cpu.rip in
