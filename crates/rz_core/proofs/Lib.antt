@@ -4,6 +4,7 @@ pub mod Lowest
 pub mod NewPartsLaws
 pub mod Placed
 pub mod Rank
+pub mod RewriteLaws
 pub mod Trimmed
 pub mod FormLaws
 pub mod ReadLaws

@@ -24,7 +24,7 @@ use Rattle.rz_machine.proofs.PlainNodes.{stands}
 use Rattle.rz_machine.proofs.RewrittenLaws.{code_room, stubs_room, stop_low, place_in_code}
 use Rattle.rz_machine.proofs.ThinLaws.{length-zeros}
 use Rattle.rz_core.specs.declared.added.AddedRange.{AddedRange}
-use Rattle.rz_core.specs.NewParts.{range_of, tables_of, code_part_of}
+use Rattle.rz_core.specs.NewParts.{range_of, new_parts_of}
 use Rattle.rz_core.specs.Places.{Placing, address_in, nodes_of, total_len, IsPlacingOf}
 use Rattle.rz_core.proofs.FragmentLaws.{nodes_of_fragments, length-fragments, total_len-short}
 
@@ -116,16 +116,25 @@ module _ (x : Image) (kept : Record) (plain : IsPlainImage x) (can : IsRewritabl
         ∙ ap (λ from. fragments_bytes (address_of frags kept.nodes a) from fs) code_is
         ∙ ap (λ l. fragments_bytes (address_of frags kept.nodes a) a.code l) are.frags_are
 
-    pub tables_hold : parts.tables ≡ tables_of decode_first x kept
+    tables_hold : parts.tables ≡ zeros (a.code - a.tables)
     tables_hold = are.tables ∙ ap (λ (b : Added). zeros (b.code - b.tables)) are.range_as
 
-    pub code_holds : parts.code ≡ code_part_of decode_first x kept
+    code_holds : parts.code ≡ filled (a.stubs - a.code) (code_of_nodes decode_first x kept)
     code_holds = are.code ∙ ap₂ filled (ap (λ (b : Added). b.stubs - b.code) are.range_as) bytes
 
     stubs_hold : parts.stubs ≡ filled (a.stop - a.stubs) (all_stubs kept.nodes)
     stubs_hold = are.stubs ∙ ap₂ (λ k l. filled k (all_stubs l)) (ap (λ (b : Added). b.stop - b.stubs) are.range_as) are.nodes_are
 
-    begins_is : entry ≡ place_of decode_first x kept x.entry
+    base_is : parts.base ≡ a.scratch
+    base_is = are.base ∙ ap (λ (b : Added). b.scratch) are.range_as
+
+    pub parts_are : parts ≡ new_parts_of decode_first x kept
+    parts_are =
+        let front : parts ≡ record { base = a.scratch; tables = zeros (a.code - a.tables); code = parts.code; stubs = parts.stubs } =
+            ap₂ (λ b t. let q : Parts = record { base = b; tables = t; code = parts.code; stubs = parts.stubs } in q) base_is tables_hold in
+        front ∙ ap₂ (λ k s. let q : Parts = record { base = a.scratch; tables = zeros (a.code - a.tables); code = k; stubs = s } in q) code_holds stubs_hold
+
+    pub begins_is : entry ≡ place_of decode_first x kept x.entry
     begins_is = are.begins ∙ labels (label.Place x.entry)
 
     code_long : length (code_of_nodes decode_first x kept) ≤ a.stubs - a.code
@@ -141,7 +150,7 @@ module _ (x : Image) (kept : Record) (plain : IsPlainImage x) (can : IsRewritabl
         record {
           parts_added =
               record {
-                base = are.base ∙ ap (λ (b : Added). b.scratch) are.range_as;
+                base = base_is;
                 tables = ap length tables_hold ∙ length-zeros (a.code - a.tables);
                 code = ap length code_holds ∙ length-filled (a.stubs - a.code) (code_of_nodes decode_first x kept) code_long;
                 stubs = stubs_hold;

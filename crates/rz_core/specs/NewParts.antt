@@ -1,10 +1,12 @@
 -- What stands in the parts of a new file.
-use Rattle.std.specs.Prelude.{ℕ, ◌-◌, List}
+use Rattle.std.specs.Prelude.{ℕ, ◌-◌}
 use Rattle.rz_machine.specs.declared.trace.Record.{Record}
 use Rattle.rz_machine.specs.Memory.{zeros}
 use Rattle.rz_machine.specs.Elf.{Image}
 use Rattle.rz_machine.specs.Insn.{Decoder}
 use Rattle.rz_machine.specs.Added.{Added, added, filled}
+use Rattle.rz_machine.specs.declared.elf_write.Parts.{Parts}
+use Rattle.rz_machine.specs.WrittenFile.{stubs_part}
 use Rattle.rz_machine.specs.Rewritten.{code_of_nodes}
 use Rattle.rz_core.specs.declared.added.AddedRange.{AddedRange}
 
@@ -12,10 +14,13 @@ use Rattle.rz_core.specs.declared.added.AddedRange.{AddedRange}
 abbrev pub range_of : AddedRange → Added
 range_of r = record { scratch = r.scratch; tables = r.tables; code = r.code; stubs = r.stubs; stop = r.stop }
 
--- zeros, up to the tables part's size
-abbrev pub tables_of : Decoder → Image → Record → List ℕ
-tables_of dec x kept = let a = added dec x kept in zeros (a.code - a.tables)
-
--- the fragments, and INT3 up to the code part's size
-abbrev pub code_part_of : Decoder → Image → Record → List ℕ
-code_part_of dec x kept = let a = added dec x kept in filled (a.stubs - a.code) (code_of_nodes dec x kept)
+-- the parts of the new file: the tables are zeros, the code is the fragments with INT3 up to its size
+abbrev pub new_parts_of : Decoder → Image → Record → Parts
+new_parts_of dec x kept =
+    let a = added dec x kept in
+    record {
+      base = a.scratch;
+      tables = zeros (a.code - a.tables);
+      code = filled (a.stubs - a.code) (code_of_nodes dec x kept);
+      stubs = stubs_part a kept.nodes;
+    }

@@ -5,20 +5,23 @@ ghost use Rattle.rz_machine.specs.Memory.{zeros};
 ghost use Rattle.rz_machine.specs.Added.{all_stubs, filled as filled_with};
 ghost use Rattle.rz_machine.specs.First.{decode_first};
 ghost use Rattle.rz_machine.specs.Fragments.{fragments, fragments_bytes};
-ghost use Rattle.rz_machine.specs.Loaded.{loaded, IsLoadable};
+ghost use Rattle.rz_machine.specs.Keeps.{Keeps};
+ghost use Rattle.rz_machine.specs.Loaded.{loaded, thin_elf, IsLoadable};
 ghost use Rattle.rz_machine.specs.PlainImage.{IsPlainImage};
 ghost use Rattle.rz_machine.specs.Rewritable.{IsRewritable};
-ghost use Rattle.rz_machine.specs.Rewritten.{HasRoom, IsRewritten};
-ghost use Rattle.rz_core.specs.NewParts.{tables_of, code_part_of};
+ghost use Rattle.rz_machine.specs.Rewritten.{HasRoom, IsRewritten, place_of};
+ghost use Rattle.rz_machine.specs.Thin.{IsThin};
+ghost use Rattle.rz_machine.specs.WrittenFile.{written_file, Inert};
+ghost use Rattle.rz_core.specs.NewParts.{new_parts_of};
 ghost use Rattle.rz_core.specs.Places.{address_in, total_len};
 ghost use Rattle.rz_core.specs.Spellable.{IsFragmentSpellable};
 
 use crate::added::{AddedRange, lowest_load, page_floor, parts_below};
 use crate::emit::{emit, emit_stubs};
-use crate::fragment::{Fragments, fragments_of};
+use crate::fragment::{Fragments, are_bytes, fragments_of};
 use crate::layout::{Layout, lay_out};
 use rz_machine::elf::Elf;
-use rz_machine::elf_write::Parts;
+use rz_machine::elf_write::{Parts, write_elf};
 use rz_machine::items::{Fragment, Label};
 use rz_machine::memory::Memory;
 use rz_machine::start::load_regions;
@@ -28,6 +31,28 @@ use std::alloc::Global;
 
 /// INT3, which fills code and stubs.
 const INT3: u8 = 0xcc;
+
+/// A new file.
+#[derive(Drop)]
+pub struct New {
+    pub bytes: Bytes,
+}
+
+/// The new file of what is kept of a thin file. It refuses for want of memory alone.
+pub fn rewrite(alloc: Global, elf: &Elf, kept: &Record) -> Result<New, OutOfMemory>
+    requires thin { IsThin elf.now.bytes }
+    requires read { elf.now ≡ thin_elf elf.now.bytes }
+    requires loadable { IsLoadable elf.now }
+    requires rewritable { IsRewritable decode_first (loaded elf.now) kept.now }
+    ensures file { IfOk result (λ new. new.bytes ≡ written_file elf.now.bytes (new_parts_of decode_first (loaded elf.now) kept.now) (place_of decode_first (loaded elf.now) kept.now elf.now.entry)) }
+    ensures keeps { IfOk result (λ new. Keeps decode_first elf.now.bytes new.bytes kept.now) }
+    ensures inert { IfOk result (λ new. Inert decode_first elf.now.bytes new.bytes kept.now) }
+{
+    are_bytes(elf.bytes.as_slice());
+    let NewParts { parts, entry } = new_parts(alloc, elf, kept)?;
+    let bytes = write_elf(alloc, &elf.bytes, &parts, entry)?;
+    Ok(New { bytes })
+}
 
 /// The parts that are added to a file, and the address where the new file begins.
 #[derive(Drop)]
@@ -42,9 +67,9 @@ pub fn new_parts(alloc: Global, elf: &Elf, kept: &Record) -> Result<NewParts, Ou
     requires plain { IsPlainImage (loaded elf.now) }
     requires rewritable { IsRewritable decode_first (loaded elf.now) kept.now }
     requires room { HasRoom decode_first (loaded elf.now) kept.now }
+    ensures parts { IfOk result (λ new. new.parts ≡ new_parts_of decode_first (loaded elf.now) kept.now) }
+    ensures entry { IfOk result (λ new. new.entry ≡ place_of decode_first (loaded elf.now) kept.now elf.now.entry) }
     ensures rewritten { IfOk result (λ new. IsRewritten decode_first (loaded elf.now) kept.now new.parts new.entry) }
-    ensures tables { IfOk result (λ new. new.parts.tables ≡ tables_of decode_first (loaded elf.now) kept.now) }
-    ensures code { IfOk result (λ new. new.parts.code ≡ code_part_of decode_first (loaded elf.now) kept.now) }
 {
     let words = kept.nodes.to_words(alloc)?;
     let nodes = words.as_slice();

@@ -8,7 +8,7 @@ use Rattle.rz_machine.specs.Fragments.{fragments}
 use Rattle.rz_machine.specs.Loaded.{loaded, loaded_region}
 use Rattle.rz_machine.specs.Rewritten.{fragments_of}
 use Rattle.rz_core.specs.NewParts.{range_of}
-use Rattle.rz_core.proofs.NewPartsLaws.{range_is, nodes_low, stop_is_low, Fits, fits, AreEmitted, tables_hold, code_holds, are_rewritten}
+use Rattle.rz_core.proofs.NewPartsLaws.{range_is, nodes_low, stop_is_low, Fits, fits, AreEmitted, parts_are, begins_is, are_rewritten}
 use Rattle.rz_core.proofs.rewrite.new_parts.Goals as goal
 
 pub parts_below-range-requires-clause-low : goal.parts_below-range-requires-clause-low
@@ -159,7 +159,7 @@ returns c =
           begins = c.address-entry.ensures.value;
         } in
     record {
+      parts = parts_are x kept plain can room c.as_slice-list.result.now c.as_slice-nodes.result.now c.parts_below-range.result p parts entry are;
+      entry = begins_is x kept plain can room c.as_slice-list.result.now c.as_slice-nodes.result.now c.parts_below-range.result p parts entry are;
       rewritten = are_rewritten x kept plain can room c.as_slice-list.result.now c.as_slice-nodes.result.now c.parts_below-range.result p parts entry are;
-      tables = tables_hold x kept plain can room c.as_slice-list.result.now c.as_slice-nodes.result.now c.parts_below-range.result p parts entry are;
-      code = code_holds x kept plain can room c.as_slice-list.result.now c.as_slice-nodes.result.now c.parts_below-range.result p parts entry are;
     }
