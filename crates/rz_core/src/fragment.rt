@@ -78,7 +78,7 @@ fn decoded_at(memory: &Memory, at: u64) -> Decoded
 }
 
 // The items of a slice of bytes are bytes.
-fn are_bytes(bytes: &[u8])
+pub(crate) fn are_bytes(bytes: &[u8])
     ensures { AreBytes bytes.now }
 {
     let _ = bytes;
