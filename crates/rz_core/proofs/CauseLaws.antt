@@ -1,5 +1,5 @@
 -- From what debloating and putting say to what the whole call says.
-use Rattle.std.proofs.Common.{◌≡◌, ℕ, ◌⊎◌, inl, inr, ⊎_elim, IsTrue, List, refl, sym, subst}
+use Rattle.std.proofs.Common.{◌≡◌, ℕ, ◌≤◌, ◌∙◌, ◌⊎◌, inl, inr, ⊎_elim, IsTrue, List, refl, sym, subst}
 use Rattle.rz_outside.specs.StoreAnswers.{SameFiles, SameOthers}
 use Rattle.rz_core.specs.declared.status.Status.{Status}
 use Rattle.rz_core.specs.declared.status.Status.TheVariants as status
@@ -7,7 +7,8 @@ use Rattle.rz_core.specs.declared.status.Target.TheVariants as target
 use Rattle.rz_core.specs.Words.{Debloat}
 use Rattle.rz_core.specs.Texts.{refusal_text}
 use Rattle.std.specs.Prelude.{Option, Some, None}
-use Rattle.rz_core.specs.Causes.{StoreCalls, SinkCalls, RefusedBy, CauseOf, FilesAfterForm, SinkAfter, GotText, PutAfter, RefusedAfter, IsReported}
+use Rattle.rz_outside.specs.Counts.{Rose, rose_later}
+use Rattle.rz_core.specs.Causes.{StoreCalls, SinkCalls, HoldsThin, InputRefusal, PrepareRefusal, RefusedBy, CauseOf, FilesAfterForm, SinkAfter, GotText, PutAfter, RefusedAfter, IsReported}
 
 -- a refusal's cause is the answer's
 same_cause : (d : Debloat) (s : StoreCalls) (k : SinkCalls) (st : Status) → RefusedBy d s st → CauseOf d s k st
@@ -98,3 +99,18 @@ pub usage_sink : (s : StoreCalls) (k : SinkCalls) (answer : Status) → RefusedA
 usage_sink s k answer after =
     let P : Status → Type 0 = λ a. SinkAfter None s k a in
     ⊎_elim (λ m. subst P (sym m.0) m.1) (λ r. subst P (sym r.0) r.1) after
+
+-- a refusal of the input after the executable was read
+pub input_refused : (d : Debloat) (before after : StoreCalls) (x : List ℕ) (e : Status) → after.told ≡ before.told → SameFiles before.old after.old → before.before ≤ after.before → after.now ≡ before.now → after.failed ≡ before.failed
+    → (IsTrue before.told → HoldsThin before.old d.exe x) → InputRefusal d.input after e → PrepareRefusal d before e
+input_refused d s t x (status.ReadFault file) told same le now failed exe h =
+    (inr (h.0, λ y. (x, exe y)), ⊎_elim (λ r. inl (subst (Rose s.before) now (rose_later s.before t.before t.now le r.0), sym failed ∙ r.1)) (λ m. inr (subst IsTrue told m.0, sym (same file) ∙ m.1)) h.1)
+input_refused d s t x (status.BadInput input line) told same le now failed exe h =
+    (h.0, h.1, λ y. (let r = h.2 (subst IsTrue (sym told) y) in ((x, exe y), (r.0, sym (same d.input) ∙ r.1, r.2))))
+input_refused d s t x status.OutOfMemory told same le now failed exe h = tt
+input_refused d s t x (status.Refused file why) told same le now failed exe h = absurd h
+input_refused d s t x (status.LeftCode input address) told same le now failed exe h = absurd h
+input_refused d s t x (status.WriteFault target.File) told same le now failed exe h = absurd h
+input_refused d s t x (status.WriteFault target.Text) told same le now failed exe h = absurd h
+input_refused d s t x status.Ok told same le now failed exe h = absurd h
+input_refused d s t x status.Usage told same le now failed exe h = absurd h

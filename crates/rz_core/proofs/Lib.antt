@@ -10,5 +10,4 @@ pub mod FormLaws
 pub mod ReadLaws
 pub mod CauseLaws
 pub mod ExactLaws
-pub mod Lowest
 pub mod MadeLaws

@@ -6,7 +6,7 @@ use Rattle.rz_machine.specs.declared.elf.Elf.{Elf}
 use Rattle.rz_machine.specs.Elf.{fault_of, image_of}
 use Rattle.rz_machine.specs.First.{decode_first}
 use Rattle.rz_machine.specs.LeftCode.{LeavesCode}
-use Rattle.rz_machine.specs.Loaded.{IsLoadable, loaded}
+use Rattle.rz_machine.specs.Loaded.{IsLoadable, loaded, thin_elf}
 use Rattle.rz_machine.specs.Thin.{IsThin}
 use Rattle.rz_core.specs.declared.making.MakeRefusal.{MakeRefusal}
 use Rattle.rz_core.specs.declared.making.MakeRefusal.TheVariants as make
@@ -20,6 +20,7 @@ pub record IsOfThin (elf : Elf) : Type 0 where
   pub thin : IsThin elf.bytes
   pub accepted : fault_of elf.bytes ≡ None
   pub loadable : IsLoadable elf
+  pub read : elf ≡ thin_elf elf.bytes
   pub image : loaded elf ≡ image_of elf.bytes
   pub bytes_fit : AllByRecursion (λ b. b < 256) elf.bytes
 

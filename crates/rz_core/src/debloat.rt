@@ -110,7 +110,9 @@ fn prepare<S: Store>(alloc: Global, d: &Debloat<'_>, store: &mut S) -> Result<Ma
     ensures cause { IfErr result (PrepareRefusal (words_of d.now) (record { told = S.told store.old; old = S.files store.old; new = S.files store.new; before = S.faults store.old; now = S.faults store.new; failed = S.failed_name store.new })) }
 {
     let elf = read_executable(alloc, store, d.exe)?;
-    read_input(alloc, store, d.input)?;
+    if let Err(status) = read_input(alloc, store, d.input) {
+        return Err(status);
+    }
     match make(alloc, &elf, d.limit) {
         Ok(made) => Ok(made),
         Err(MakeRefusal::LeftCode(address)) => Err(Status::LeftCode { input: 1, address }),

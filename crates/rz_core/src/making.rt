@@ -1,20 +1,21 @@
 //! From a file to its new file: the trace, the new parts, the written file and the report.
 
-ghost use Rattle.std.specs.Prelude.{◌≡◌, ◌≤◌, ℕ, List, length, IfOk, IfErr};
-ghost use Rattle.rz_machine.specs.Elf.{image_of};
+ghost use Rattle.std.specs.Prelude.{◌≡◌, ◌≤◌, ℕ, List, length, IfOk, IfErr, OnOk};
+ghost use Rattle.rz_machine.specs.Loaded.{loaded};
 ghost use Rattle.rz_machine.specs.First.{decode_first};
 ghost use Rattle.rz_machine.specs.Added.{added};
 ghost use Rattle.rz_machine.specs.Keeps.{Keeps};
+ghost use Rattle.rz_machine.specs.LeftCode.{StaysInCode};
+ghost use Rattle.rz_machine.specs.Recorded.{IsUncut};
 ghost use Rattle.rz_machine.specs.Rewritable.{IsRewritable};
 ghost use Rattle.rz_machine.specs.WrittenFile.{Inert};
-ghost use Rattle.rz_core.specs.Debloated.{IsDebloated, report_of};
+ghost use Rattle.rz_core.specs.Debloated.{IsDebloated, kept_of, traced, report_of};
 ghost use Rattle.rz_core.specs.Making.{IsOfThin, MakeRefused};
 ghost use Rattle.rz_core.specs.Texts.{report_text};
 
-use crate::rewrite::new_parts;
+use crate::rewrite::{New, rewrite};
 use crate::texts;
 use rz_machine::elf::Elf;
-use rz_machine::elf_write::write_elf;
 use rz_machine::first::First;
 use rz_machine::sys::Input;
 use rz_machine::trace::{Record, TraceRefusal, trace};
@@ -44,32 +45,44 @@ pub fn make(alloc: Global, elf: &Elf, limit: u64) -> Result<Made, MakeRefusal>
     ensures report { IfOk result (λ m. m.report ≡ report_of limit elf.now.bytes) }
     ensures err { IfErr result (MakeRefused limit elf.now.bytes) }
 {
-    let input = Input::empty(alloc);
-    let mut kept = Record::new(alloc);
-    match trace::<First>(alloc, elf, &input, limit, &mut kept) {
-        Ok(()) => {}
-        Err(TraceRefusal::LeftCode(address)) => return Err(MakeRefusal::LeftCode(address)),
-        Err(TraceRefusal::OutOfMemory) => return Err(MakeRefusal::OutOfMemory),
-    }
+    let kept = record_run(alloc, elf, limit)?;
     match write_new(alloc, elf, &kept) {
         Ok(made) => Ok(made),
         Err(OutOfMemory) => Err(MakeRefusal::OutOfMemory),
     }
 }
 
-/// The new file of a thin file for what is kept, and the report of it. It refuses for want of memory alone.
-pub fn write_new(alloc: Global, elf: &Elf, kept: &Record) -> Result<Made, OutOfMemory>
+// What the run of a thin file on the empty input records in its first `limit` steps.
+fn record_run(alloc: Global, elf: &Elf, limit: u64) -> Result<Record, MakeRefusal>
     requires thin { IsOfThin elf.now }
-    requires rewritable { IsRewritable decode_first (image_of elf.now.bytes) kept.now }
+    requires some { 1 ≤ limit }
+    ensures kept { IfOk result (λ kept. kept ≡ kept_of limit elf.now.bytes) }
+    ensures rewritable { IfOk result (λ kept. IsRewritable decode_first (loaded elf.now) kept) }
+    ensures stays { OnOk result (StaysInCode decode_first limit (traced elf.now.bytes)) }
+    ensures uncut { IfOk result (λ kept. IsUncut decode_first kept.edges (traced elf.now.bytes) limit) }
+    ensures err { IfErr result (MakeRefused limit elf.now.bytes) }
+{
+    let input = Input::empty(alloc);
+    let mut kept = Record::new(alloc);
+    match trace::<First>(alloc, elf, &input, limit, &mut kept) {
+        Ok(()) => Ok(kept),
+        Err(TraceRefusal::LeftCode(address)) => Err(MakeRefusal::LeftCode(address)),
+        Err(TraceRefusal::OutOfMemory) => Err(MakeRefusal::OutOfMemory),
+    }
+}
+
+// The new file of a thin file for what is kept, and the report of it.
+fn write_new(alloc: Global, elf: &Elf, kept: &Record) -> Result<Made, OutOfMemory>
+    requires thin { IsOfThin elf.now }
+    requires rewritable { IsRewritable decode_first (loaded elf.now) kept.now }
     ensures keeps { IfOk result (λ m. Keeps decode_first elf.now.bytes m.bytes kept.now) }
     ensures inert { IfOk result (λ m. Inert decode_first elf.now.bytes m.bytes kept.now) }
-    ensures report { IfOk result (λ m. m.report ≡ report_text (added decode_first (image_of elf.now.bytes) kept.now).scratch (length kept.now.edges) (length kept.now.nodes) 0 0) }
+    ensures report { IfOk result (λ m. m.report ≡ report_text (added decode_first (loaded elf.now) kept.now).scratch (length kept.now.edges) (length kept.now.nodes) 0 0) }
 {
-    let new = new_parts(alloc, elf, kept)?;
-    let bytes = write_elf(alloc, &elf.bytes, &new.parts, new.entry)?;
+    let New { bytes, base } = rewrite(alloc, elf, kept)?;
     let edges = kept.edges.len() as u64;
     let instructions = kept.nodes.len() as u64;
-    let report = report_bytes(alloc, new.parts.base, edges, instructions)?;
+    let report = report_bytes(alloc, base, edges, instructions)?;
     Ok(Made { bytes, report })
 }
 

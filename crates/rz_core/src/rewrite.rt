@@ -2,7 +2,7 @@
 
 ghost use Rattle.std.specs.Prelude.{◌≡◌, ◌+◌, ◌-◌, ◌*◌, ◌^◌, ◌<◌, ◌≤◌, ◌++◌, length, replicate, All, IfOk};
 ghost use Rattle.rz_machine.specs.Memory.{zeros};
-ghost use Rattle.rz_machine.specs.Added.{all_stubs, filled as filled_with};
+ghost use Rattle.rz_machine.specs.Added.{added, all_stubs, filled as filled_with};
 ghost use Rattle.rz_machine.specs.First.{decode_first};
 ghost use Rattle.rz_machine.specs.Fragments.{fragments, fragments_bytes};
 ghost use Rattle.rz_machine.specs.Keeps.{Keeps};
@@ -32,10 +32,11 @@ use std::alloc::Global;
 /// INT3, which fills code and stubs.
 const INT3: u8 = 0xcc;
 
-/// A new file.
+/// A new file, and the address where the range that is added in it begins.
 #[derive(Drop)]
 pub struct New {
     pub bytes: Bytes,
+    pub base: u64,
 }
 
 /// The new file of what is kept of a thin file. It refuses for want of memory alone.
@@ -47,11 +48,15 @@ pub fn rewrite(alloc: Global, elf: &Elf, kept: &Record) -> Result<New, OutOfMemo
     ensures file { IfOk result (λ new. new.bytes ≡ written_file elf.now.bytes (new_parts_of decode_first (loaded elf.now) kept.now) (place_of decode_first (loaded elf.now) kept.now elf.now.entry)) }
     ensures keeps { IfOk result (λ new. Keeps decode_first elf.now.bytes new.bytes kept.now) }
     ensures inert { IfOk result (λ new. Inert decode_first elf.now.bytes new.bytes kept.now) }
+    ensures base { IfOk result (λ new. new.base ≡ (added decode_first (loaded elf.now) kept.now).scratch) }
 {
     are_bytes(elf.bytes.as_slice());
     let NewParts { parts, entry } = new_parts(alloc, elf, kept)?;
     let bytes = write_elf(alloc, &elf.bytes, &parts, entry)?;
-    Ok(New { bytes })
+    Ok(New {
+        bytes,
+        base: parts.base,
+    })
 }
 
 /// The parts that are added to a file, and the address where the new file begins.
