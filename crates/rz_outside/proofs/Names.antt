@@ -1,5 +1,5 @@
 -- Whether a list of entries has no name twice, from its entry at a place on.
-use Rattle.std.proofs.Common.{◌≡◌, ℕ, ◌+◌, ◌<◌, ◌≤◌, Bool, true, false, List, [], ◌∷◌, length, get_or, drop, bytes_eq, ◌↔◌, ◌||◌, arith, refl, drop-cons, subst, sym, ap, suc, add-one}
+use Rattle.std.proofs.Common.{◌≡◌, ℕ, ◌+◌, ◌<◌, ◌≤◌, Bool, true, false, List, [], ◌∷◌, length, get_or, drop, bytes_eq, ◌↔◌, ◌||◌, refl, drop-cons, subst, sym, ap, suc, add-one}
 use Rattle.std.specs.List.{IsDistinct, AllByRecursion, list_any}
 use Rattle.std.specs.Map.{keys_of}
 use Rattle.std.proofs.Math.ListN.{drop_of_length-le}
