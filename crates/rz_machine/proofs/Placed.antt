@@ -9,13 +9,12 @@ use Rattle.rz_machine.specs.declared.decode.Decoded.TheVariants as decoded
 use Rattle.rz_machine.specs.declared.items.Label.{Label}
 use Rattle.rz_machine.specs.declared.items.Item.{Item}
 use Rattle.rz_machine.specs.declared.items.Item.TheVariants as item
-use Rattle.rz_machine.specs.Memory.{Regions, cell_at, code_of, fetched, fetch, wrap, SameCode}
+use Rattle.rz_machine.specs.Memory.{Regions, cell_at, code_of, fetched, fetch, wrap}
 use Rattle.rz_machine.specs.Insn.{Decoder}
 use Rattle.rz_machine.specs.Nodes.{spelled_at}
 use Rattle.rz_machine.specs.First.{decode_first, spelling, spelling_len, HasSpelling}
 use Rattle.rz_machine.specs.Fragments.{item_len, items_len, resolved, items_bytes}
 use Rattle.rz_machine.specs.FirstLaws.{decode_spelling, length-spelling}
-use Rattle.rz_machine.proofs.CodeLaws.{fetch_same}
 
 -- these bytes may be executed at this place
 abbrev pub BytesAt : Regions → ℕ → List ℕ → Type 0
@@ -62,10 +61,6 @@ pub record InsnAt (dec : Decoder) (m : Regions) (p : ℕ) (x : Insn) (next : ℕ
 abbrev pub InsnsAt : Decoder → Regions → ℕ → List Insn → ℕ → Type 0
 InsnsAt dec m p [] q = p ≡ q
 InsnsAt dec m p (x ∷ xs) q = (next : ℕ) × InsnAt dec m p x next × InsnsAt dec m next xs q
-
--- in memory with the same code the same instruction stands
-pub insn_same : (dec : Decoder) (m n : Regions) (p : ℕ) (x : Insn) (next : ℕ) → SameCode m n → InsnAt dec n p x next → InsnAt dec m p x next
-insn_same dec m n p x next same h = record { len = h.len; spelled = ap (λ bs. dec bs p) (fetch_same m n p 15 same) ∙ h.spelled; ends = h.ends }
 
 -- bytes that are decoded, whatever follows
 pub insn_of_bytes : (dec : Decoder) (m : Regions) (p : ℕ) (x : Insn) (bs : List ℕ) → BytesAt m p bs → length bs ≤ 15 → p + length bs < 2 ^ 64 → ((rest : List ℕ) → dec (bs ++ rest) p ≡ decoded.Insn x (length bs)) → InsnAt dec m p x (p + length bs)

@@ -16,18 +16,11 @@ use Rattle.rz_machine.specs.Keeps.{Edges, has_edge, IsCut, NoCut}
 use Rattle.rz_machine.specs.Rewritable.{has_node, IsAscending, IsRewritable}
 use Rattle.rz_machine.specs.LeftCode.{left_at, StaysInCode}
 use Rattle.rz_machine.specs.Traced.{with_run}
+use Rattle.rz_machine.specs.Recorded.{StandsIn, IsUncut}
 use Rattle.rz_machine.proofs.SetLaws.{has_node-with_nodes, has_edge-with_edges, IsAscending-with_nodes}
 use Rattle.rz_machine.proofs.CodeLaws.{HasCode}
 use Rattle.rz_machine.proofs.StartCode.{start_code}
 use Rattle.rz_machine.proofs.TraceLaws.{IsDirect, Begins, begins, begins_or, step_ended, after_ended, begun_nodes, begun_direct, neighbours_in}
-
--- what is kept stands in the code: all that is asked of a kept set but for the entry
-pub record StandsIn (dec : Decoder) (m : Regions) (kept : Record) : Type 0 where
-  pub ascending : IsAscending kept.nodes
-  pub nodes : (a : ℕ) → has_node kept.nodes a ≡ true → IsNode dec m a
-  pub sources : (a b : ℕ) → has_edge kept.edges a b ≡ true → has_node kept.nodes a ≡ true
-  pub ends : (a b : ℕ) → has_edge kept.edges a b ≡ true → has_node kept.nodes b ≡ true
-  pub direct : (a b : ℕ) → has_edge kept.edges a b ≡ true → is_site_at dec m a ≡ false → has_node (direct_at dec m a) b ≡ true
 
 pub nothing_stands : (dec : Decoder) (m : Regions) → StandsIn dec m (record { nodes = []; edges = [] })
 nothing_stands dec m = record { ascending = tt; nodes = λ a h. cc; sources = λ a b h. cc; ends = λ a b h. cc; direct = λ a b h site. cc }
@@ -173,21 +166,20 @@ unfolding with_run
 with_run_has dec n s kept a b h =
     has_edge-with_edges kept.edges (neighbours (begun dec n s)) a b ∙ or_right (has_edge kept.edges a b) (has_edge (neighbours (begun dec n s)) a b) h
 
+-- so the record of a run that stays in the code has no cut for it
+pub with_run_uncut : (dec : Decoder) (n : ℕ) (s : Machine) (kept : Record) → StaysInCode dec n s → IsUncut dec (with_run dec n s kept).edges s n
+with_run_uncut dec n s kept stays =
+    record { before = run_no_cut dec n s _ stays (with_run_has dec n s kept); ended = λ why e. ended_no_cut dec n s _ why e stays (with_run_has dec n s kept) }
+
 -- what is recorded is a run added to nothing
 pub recorded_run : (dec : Decoder) (n : ℕ) (s : Machine) → recorded dec n s ≡ with_run dec n s (record { nodes = []; edges = [] })
 unfolding recorded with_run
 recorded_run dec n s = refl
 
-recorded_has : (dec : Decoder) (n : ℕ) (s : Machine) → HasRun dec n s (recorded dec n s).edges
-recorded_has dec n s = subst (λ (kept : Record). HasRun dec n s kept.edges) (sym (recorded_run dec n s)) (with_run_has dec n s _)
-
--- no step of a recorded run before the last is its cut
-pub recorded_no_cut : (dec : Decoder) (n : ℕ) (x : Image) (input : Input) → StaysInCode dec n (start x input) → NoCut dec (recorded dec n (start x input)).edges (start x input) (n - 1)
-recorded_no_cut dec n x input stays = run_no_cut dec n (start x input) _ stays (recorded_has dec n (start x input))
-
--- a recorded run that ended has no cut
-pub recorded_ended_no_cut : (dec : Decoder) (n : ℕ) (x : Image) (input : Input) (why : End) → (after dec n (start x input)).end ≡ Some why → StaysInCode dec n (start x input) → (m : ℕ) → NoCut dec (recorded dec n (start x input)).edges (start x input) m
-recorded_ended_no_cut dec n x input why ended stays = ended_no_cut dec n (start x input) _ why ended stays (recorded_has dec n (start x input))
+-- no step of a recorded run before the last is its cut, and none at all where it ended
+pub recorded_no_cut : (dec : Decoder) (n : ℕ) (s : Machine) → StaysInCode dec n s → IsUncut dec (recorded dec n s).edges s n
+recorded_no_cut dec n s stays =
+    subst (λ (kept : Record). IsUncut dec kept.edges s n) (sym (recorded_run dec n s)) (with_run_uncut dec n s _ stays)
 
 -- a run added to what stands in the code can be rewritten
 pub with_run_rewritable : (dec : Decoder) (x : Image) (input : Input) (n : ℕ) (kept : Record) → 1 ≤ n → NoSelfWritten x.loads → StaysInCode dec n (start x input) → StandsIn dec x.loads kept → IsRewritable dec x (with_run dec n (start x input) kept)
@@ -209,3 +201,14 @@ with_run_rewritable dec x input n kept some fixed stays old =
 pub recorded_rewritable : (dec : Decoder) (x : Image) (input : Input) (n : ℕ) → 1 ≤ n → NoSelfWritten x.loads → StaysInCode dec n (start x input) → IsRewritable dec x (recorded dec n (start x input))
 recorded_rewritable dec x input n some fixed stays =
     subst (IsRewritable dec x) (sym (recorded_run dec n (start x input))) (with_run_rewritable dec x input n _ some fixed stays (nothing_stands dec x.loads))
+
+-- the same of a state and a record that a trace began and ended with
+pub traced_rewritable : (dec : Decoder) (x : Image) (input : Input) (n : ℕ) (s : Machine) (old new : Record) → s ≡ start x input → new ≡ with_run dec n s old → StaysInCode dec n s
+    → 1 ≤ n → NoSelfWritten x.loads → StandsIn dec x.loads old → IsRewritable dec x new
+traced_rewritable dec x input n s old new began added stays some fixed stands =
+    let P : Machine → Type 0 = StaysInCode dec n in
+    subst (IsRewritable dec x) (sym (added ∙ ap (λ t. with_run dec n t old) began)) (with_run_rewritable dec x input n old some fixed (subst P began stays) stands)
+
+pub traced_uncut : (dec : Decoder) (n : ℕ) (s t : Machine) (old new : Record) → s ≡ t → new ≡ with_run dec n s old → StaysInCode dec n s → IsUncut dec new.edges t n
+traced_uncut dec n s t old new began added stays =
+    subst (λ (u : Machine). IsUncut dec new.edges u n) began (subst (λ (kept : Record). IsUncut dec kept.edges s n) (sym added) (with_run_uncut dec n s old stays))

@@ -153,7 +153,7 @@ begins_nothing_ends dec s h = go s.end (decoded_at dec s) refl refl
     go None decoded.Short e f = let k = ap (λ d. act d s) f in (end.Fetch s.cpu.rip, ap (λ t. t.end) (step_running dec s e ∙ k))
     go None decoded.Unknown e f = let k = ap (λ d. act d s) f in (end.Unknown s.cpu.rip, ap (λ t. t.end) (step_running dec s e ∙ k))
 
-begun_none : (dec : Decoder) (n : ℕ) (s : Machine) → begun_at dec s ≡ [] → begun dec n s ≡ []
+pub begun_none : (dec : Decoder) (n : ℕ) (s : Machine) → begun_at dec s ≡ [] → begun dec n s ≡ []
 unfolding begun
 begun_none dec zero s h = refl
 begun_none dec (suc n) s h =

@@ -9,6 +9,7 @@ use Rattle.rz_machine.specs.declared.elf.ElfFault.{ElfFault}
 use Rattle.rz_machine.specs.declared.elf.ElfFault.TheVariants as fault
 use Rattle.rz_machine.specs.declared.memory.Perm.{Perm}
 use Rattle.rz_machine.specs.declared.memory.Region.{Region}
+pub use Rattle.rz_machine.specs.declared.segment.Segment.{Segment}
 use Rattle.rz_machine.specs.Memory.{Regions, zeros}
 
 -- the number in the field of n bytes at a place of the file, the low byte first (ELFDATA2LSB)
@@ -38,17 +39,6 @@ file_header x =
       entry_size = field x 54 2;
       count = field x 56 2;
     }
-
--- the fields of a program header
-pub record Segment : Type 0 where
-  pub kind : ℕ
-  pub flags : ℕ
-  pub offset : ℕ
-  pub vaddr : ℕ
-  pub paddr : ℕ
-  pub filesz : ℕ
-  pub memsz : ℕ
-  pub align : ℕ
 
 -- the program header whose bytes come first
 abbrev pub segment_of : List ℕ → Segment

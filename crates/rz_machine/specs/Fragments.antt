@@ -34,7 +34,7 @@ abbrev pub items_for : Edges → ℕ → Decoded → List Item
 items_for edges a (decoded.Insn x len) = items_of edges a (wrap (a + len)) x
 items_for edges a _ = item.Whole insn.Ud2 ∷ []
 
-abbrev is_following : Option ℕ → Label → Bool
+abbrev pub is_following : Option ℕ → Label → Bool
 is_following (Some b) (label.Place a) = a == b
 is_following _ _ = false
 

@@ -13,9 +13,11 @@ pub mod Added
 pub mod Keeps
 pub mod WrittenFile
 pub mod Thin
+pub mod Greeting
 pub mod Rewritable
 pub mod Fragments
 pub mod Pace
+pub mod PlainImage
 pub mod LeftCode
 pub mod Traced
 pub mod TableLaws
@@ -24,3 +26,5 @@ pub mod Left
 pub mod Ran
 pub mod Loaded
 pub mod ThinPage
+pub mod Rewritten
+pub mod Recorded

@@ -118,6 +118,15 @@ new_image x p entry = record { loads = added_regions p ++ map without_code x.loa
 abbrev pub stubs_part : Added → List ℕ → List ℕ
 stubs_part a nodes = filled (a.stop - a.stubs) (all_stubs nodes)
 
+-- the parts and the entry have the sizes and the places of the added range, and the stubs are those of the nodes
+pub record IsAdded (a : Added) (nodes : List ℕ) (p : Parts) (entry : ℕ) : Type 0 where
+  pub base : p.base ≡ a.scratch
+  pub tables : length p.tables ≡ a.code - a.tables
+  pub code : length p.code ≡ a.stubs - a.code
+  pub stubs : p.stubs ≡ stubs_part a nodes
+  pub entry_from : a.code ≤ entry
+  pub entry_below : entry < a.stubs
+
 -- w is the written file of x for what is kept, whatever stands in tables and code
 pub record Inert (dec : Decoder) (x w : List ℕ) (kept : Record) : Type 0 where
   pub tables : List ℕ

@@ -1,6 +1,10 @@
 //! Items: the instructions of a new file, before they have their places.
 
+ghost use Rattle.std.specs.Prelude.{◌≡◌, [], ◌∷◌, ◌++◌, OnOk, OnErr, IfOk};
+
 use crate::insn::Insn;
+use rz_num::OutOfMemory;
+use std::alloc::Global;
 use std::marker::Model;
 
 /// What a jump leads to.
@@ -34,6 +38,42 @@ impl Model for Items {
     ghost Value = { List Item };
 
     ghost view = { λ i. i.items.items };
+}
+
+impl Items {
+    /// No items. It takes no memory.
+    pub fn new(alloc: Global) -> Items
+        ensures { result ≡ [] }
+    {
+        Items {
+            items: Vec::new(alloc),
+        }
+    }
+
+    /// A copy of a slice. It refuses for want of memory alone.
+    pub fn from_slice(alloc: Global, items: &[Item]) -> Result<Items, OutOfMemory>
+        ensures { IfOk result (λ list. list ≡ items.now) }
+    {
+        Ok(Items {
+            items: Vec::from_slice(alloc, items)?,
+        })
+    }
+
+    /// Appends an item. It refuses for want of memory alone, and then the items are unchanged.
+    pub fn push(&mut self, item: Item) -> Result<(), OutOfMemory>
+        ensures ok { OnOk result (self.new ≡ self.old ++ item ∷ []) }
+        ensures err { OnErr result (self.new ≡ self.old) }
+    {
+        self.items.push(item)?;
+        Ok(())
+    }
+
+    /// The items as a slice.
+    pub fn as_slice(&self) -> &[Item]
+        ensures { result.now ≡ self.now }
+    {
+        self.items.as_slice()
+    }
 }
 
 /// The items that stand for the instruction at an address.

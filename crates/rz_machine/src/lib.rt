@@ -6,6 +6,7 @@ pub mod decode;
 pub mod elf;
 pub mod elf_law;
 pub mod elf_write;
+pub mod encode;
 pub mod first;
 pub mod flags;
 pub mod insn;
@@ -15,7 +16,11 @@ pub mod law;
 pub mod machine;
 pub mod memory;
 pub mod start;
+pub mod segment;
 pub mod sys;
 pub mod table;
 pub mod thin;
 pub mod trace;
+
+#[cfg(test)]
+mod trace_tests;

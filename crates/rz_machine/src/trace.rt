@@ -1,14 +1,27 @@
 //! What runs used: the addresses of the instructions that they began, and the pairs of neighbours.
 
-ghost use Rattle.std.specs.Prelude.{◌≡◌, ℕ, List, [], not, length, OnOk, OnErr, IfOk};
+ghost use Rattle.std.specs.Prelude.{◌≡◌, ◌⊎◌, ◌≤◌, ℕ, List, [], not, length, None, OnOk, OnErr, IfOk, IfErr};
 ghost use Rattle.std.specs.Ordering.{nat_cmp};
 ghost use Rattle.std.specs.BTreeSet.{insert_key};
 ghost use Rattle.std.specs.List.Sorted.{IsStrictlySortedBy};
+ghost use Rattle.rz_machine.specs.LeftCode.{left_at, StaysInCode};
+ghost use Rattle.rz_machine.specs.Traced.{with_run, IsRefused};
+ghost use Rattle.rz_machine.specs.Recorded.{StandsIn, IsUncut};
+ghost use Rattle.rz_machine.specs.Rewritable.{IsRewritable};
+ghost use Rattle.rz_machine.specs.Memory.{NoSelfWritten};
+ghost use Rattle.rz_machine.specs.Start.{start as start_of, IsEmptyInput};
+ghost use Rattle.rz_machine.specs.Loaded.{loaded, IsLoadable};
 
+use crate::elf::Elf;
+use crate::machine::{End, Machine};
+use crate::start::start;
+use crate::sys::Input;
+use crate::table::InsnTable;
 use rz_num::{OutOfMemory, Pairs, Words};
 use std::alloc::Global;
 use std::collections::BTreeSet;
 use std::marker::Model;
+use thiserror::Error;
 
 /// Addresses, each once, in ascending order.
 #[derive(Drop)]
@@ -135,6 +148,8 @@ pub struct Record {
 }
 
 impl Record {
+    ghost use Rattle.rz_machine.specs.Traced.{with_begun};
+
     /// The record of no nodes and no edges. It takes no memory.
     pub fn new(alloc: Global) -> Record
         ensures { result ≡ record { nodes = []; edges = [] } }
@@ -144,4 +159,100 @@ impl Record {
             edges: EdgeSet::new(alloc),
         }
     }
+
+    // Adds an instruction that was begun, and the edge from the one begun before it.
+    fn add(&mut self, last: Option<u64>, at: u64) -> Result<(), OutOfMemory>
+        ensures ok { OnOk result (self.new ≡ with_begun self.old last at) }
+        ensures edges { OnErr result (self.new.edges ≡ self.old.edges) }
+        ensures nodes { OnErr result ((self.new.nodes ≡ self.old.nodes) ⊎ (self.new.nodes ≡ insert_key nat_cmp self.old.nodes at)) }
+    {
+        self.nodes.insert(at)?;
+        if let Some(from) = last {
+            self.edges.insert((from, at))?;
+        }
+        Ok(())
+    }
+}
+
+/// Why a run wasn't traced to its limit.
+#[derive(Debug, Drop, Error)]
+pub enum TraceRefusal {
+    /// The run came to this address, where no instruction of the file is spelled.
+    #[error("left code {0}")]
+    LeftCode(u64),
+    #[error("out of memory")]
+    OutOfMemory,
+}
+
+impl From<OutOfMemory> for TraceRefusal {
+    ghost use Rattle.std.specs.Prelude.{◌≡◌};
+    ghost use Rattle.rz_machine.specs.declared.trace.TraceRefusal.TheVariants.{OutOfMemory};
+
+    ghost from_gives = { λ _ e. e ≡ OutOfMemory };
+
+    fn from(_: OutOfMemory) -> TraceRefusal {
+        TraceRefusal::OutOfMemory
+    }
+}
+
+/// Runs a file on an input for `limit` steps, or until the run ends, and adds to the record the address of each
+/// instruction that is begun and each pair of neighbours. `LeftCode` comes exactly where one of these steps finds no
+/// instruction; what came before it is then in the record. For want of memory the record has what it had and a part of the run.
+pub fn trace<T: InsnTable>(
+    alloc: Global,
+    elf: &Elf,
+    input: &Input,
+    limit: u64,
+    rec: &mut Record,
+) -> Result<(), TraceRefusal>
+    requires loadable { IsLoadable elf.now }
+    requires input { IsEmptyInput input.now }
+    ensures added { OnOk result (rec.new ≡ with_run T.decoder limit (start_of (loaded elf.now) input.now) rec.old) }
+    ensures stays { OnOk result (StaysInCode T.decoder limit (start_of (loaded elf.now) input.now)) }
+    ensures refused { IfErr result (IsRefused T.decoder limit (start_of (loaded elf.now) input.now) rec.old rec.new) }
+    // What is recorded from nothing, with a limit of at least 1, can be rewritten, and the run has no cut.
+    ensures rewritable { OnOk result (1 ≤ limit → NoSelfWritten (loaded elf.now).loads
+        → StandsIn T.decoder (loaded elf.now).loads rec.old → IsRewritable T.decoder (loaded elf.now) rec.new) }
+    ensures uncut { OnOk result (IsUncut T.decoder rec.new.edges (start_of (loaded elf.now) input.now) limit) }
+{
+    let mut machine = start(alloc, elf, input)?;
+    follow::<T>(alloc, &mut machine, limit, rec)
+}
+
+// The address where a run found no instruction, if it ended so.
+fn address_left(end: Option<End>) -> Option<u64>
+    ensures { result ≡ left_at end }
+{
+    match end {
+        Some(End::Fetch(at)) | Some(End::Unknown(at)) => Some(at),
+        _ => None,
+    }
+}
+
+// Adds the nodes and the edges of the first `limit` steps of a machine.
+fn follow<T: InsnTable>(
+    alloc: Global,
+    machine: &mut Machine,
+    limit: u64,
+    rec: &mut Record,
+) -> Result<(), TraceRefusal>
+    requires { left_at machine.old.end ≡ None }
+    ensures ok { OnOk result (rec.new ≡ with_run T.decoder limit machine.old rec.old) }
+    ensures stays { OnOk result (StaysInCode T.decoder limit machine.old) }
+    ensures err { IfErr result (IsRefused T.decoder limit machine.old rec.old rec.new) }
+{
+    let mut last = None;
+    for _ in 0..limit {
+        if machine.end.is_some() {
+            return Ok(());
+        }
+        let at = machine.cpu.rip;
+        machine.step::<T>(alloc)?;
+        if let Some(left) = address_left(machine.end) {
+            return Err(TraceRefusal::LeftCode(left));
+        }
+        rec.add(last, at)?;
+        last = Some(at);
+    }
+    Ok(())
 }

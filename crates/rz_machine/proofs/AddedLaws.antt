@@ -1,0 +1,156 @@
+-- The parts that are added to a thin file under the first table: their sizes and places.
+use Rattle.std.proofs.Common.{◌≡◌, ℕ, ◌-◌, ◌*◌, ◌%◌, ◌<◌, ◌≤◌, Bool, true, false, if◌then◌else◌, nat_le, ◌==◌, ◌&&◌, List, [], ◌∷◌, length, replicate, refl, sym, ap, ap₂, ◌∙◌, subst, arith}
+use Rattle.std.proofs.lemmas.List.{length-append, length-replicate}
+use Rattle.rz_machine.specs.declared.decode.Decoded.{Decoded}
+use Rattle.rz_machine.specs.declared.decode.Decoded.TheVariants as decoded
+use Rattle.rz_machine.specs.declared.trace.Record.{Record}
+use Rattle.rz_machine.specs.Memory.{Regions, fetch}
+use Rattle.rz_machine.specs.Insn.{kind_of, is_site}
+use Rattle.rz_machine.specs.Nodes.{is_site_at}
+use Rattle.rz_machine.specs.First.{decode_first, jmp_of, mov_of, second_of}
+use Rattle.rz_machine.specs.Elf.{image_of, fault_of}
+use Rattle.rz_machine.specs.Added.{Added, sites, site_edges, tables_size, code_size, stubs_size, parts_below, added, all_stubs, filled}
+use Rattle.rz_machine.specs.WrittenFile.{Parts, IsAdded, stubs_part, written_file, new_image, Inert}
+use Rattle.rz_machine.specs.Thin.{thin_base, thin_file, IsThin}
+use Rattle.rz_machine.proofs.ThinLaws.{code_region, thin_image}
+use Rattle.rz_machine.proofs.WrittenLaws.{PartsFit, written_accepted, written_image}
+
+-- whether what is decoded is a return or an indirect transfer
+abbrev is_site_of : Decoded → Bool
+is_site_of (decoded.Insn x len) = is_site (kind_of x)
+is_site_of _ = false
+
+jmp_no_site : (at : ℕ) (s : List ℕ) → is_site_of (jmp_of at s) ≡ false
+jmp_no_site at [] = refl
+jmp_no_site at (a ∷ []) = refl
+jmp_no_site at (a ∷ b ∷ []) = refl
+jmp_no_site at (a ∷ b ∷ c ∷ []) = refl
+jmp_no_site at (a ∷ b ∷ c ∷ d ∷ rest) = refl
+
+mov_no_site : (r : ℕ) (s : List ℕ) → is_site_of (mov_of r s) ≡ false
+mov_no_site r [] = refl
+mov_no_site r (a ∷ []) = refl
+mov_no_site r (a ∷ b ∷ []) = refl
+mov_no_site r (a ∷ b ∷ c ∷ []) = refl
+mov_no_site r (a ∷ b ∷ c ∷ d ∷ rest) = refl
+
+either_no_site : (t : Bool) (x y : Decoded) → is_site_of x ≡ false → is_site_of y ≡ false → is_site_of (if t then x else y) ≡ false
+either_no_site true x y h k = h
+either_no_site false x y h k = k
+
+second_no_site : (s : List ℕ) → is_site_of (second_of s) ≡ false
+second_no_site [] = refl
+second_no_site (b ∷ rest) = either_no_site (b == 0x05) _ _ refl (either_no_site (b == 0x0b) _ _ refl refl)
+
+first_no_site : (s : List ℕ) (at : ℕ) → is_site_of (decode_first s at) ≡ false
+unfolding decode_first
+first_no_site [] at = refl
+first_no_site (b ∷ rest) at =
+    either_no_site (b == 0xe9) _ _ (jmp_no_site at rest)
+    (either_no_site (b == 0x0f) _ _ (second_no_site rest)
+    (either_no_site (nat_le 0xb8 b && nat_le b 0xbf) _ _ (mov_no_site (b - 0xb8) rest) refl))
+
+-- the first table has no returns and no indirect transfers
+pub is_site_at-first : (m : Regions) (a : ℕ) → is_site_at decode_first m a ≡ false
+is_site_at-first m a = first_no_site (fetch m a 15) a
+
+pub sites-first : (m : Regions) (nodes : List ℕ) → sites decode_first m nodes ≡ []
+sites-first m [] = refl
+sites-first m (a ∷ nodes) = rw (is_site_at-first m a) (sites-first m nodes)
+
+pub site_edges-first : (m : Regions) (edges : List (ℕ × ℕ)) → site_edges decode_first m edges ≡ []
+site_edges-first m [] = refl
+site_edges-first m (e ∷ edges) = rw (is_site_at-first m e.0) (site_edges-first m edges)
+
+-- the parts that are added for so many nodes
+abbrev pub thin_added : ℕ → Added
+thin_added n = parts_below (tables_size 0 0) (code_size n 0 0) (stubs_size n) thin_base
+
+pub added-thin : (code : List ℕ) (kept : Record) → 1 ≤ length code → length code ≤ 65536 → added decode_first (image_of (thin_file code)) kept ≡ thin_added (length kept.nodes)
+added-thin code kept h k =
+    rw (thin_image code h k, sites-first (code_region code ∷ []) kept.nodes, site_edges-first (code_region code ∷ []) kept.edges) refl
+
+length-all_stubs : (nodes : List ℕ) → length (all_stubs nodes) ≡ 24 * length nodes
+length-all_stubs [] = omega arith
+length-all_stubs (a ∷ nodes) = let ih = length-all_stubs nodes in omega arith
+
+length-filled : (len : ℕ) (bytes : List ℕ) → length bytes ≤ len → length (filled len bytes) ≡ len
+length-filled len bytes h =
+    let a = length-append bytes (replicate (len - length bytes) 0xcc) in
+    let b : length (replicate {A = ℕ} (len - length bytes) 0xcc) ≡ len - length bytes = length-replicate (len - length bytes) 0xcc in
+    omega arith
+
+-- the sizes of the code and the stubs for up to 65,536 nodes
+code_paged : (n : ℕ) → code_size n 0 0 % 4096 ≡ 0
+code_paged n = omega arith
+
+code_some : (n : ℕ) → 0 < code_size n 0 0
+code_some n = omega arith
+
+code_few : (n : ℕ) → n ≤ 65536 → code_size n 0 0 ≤ 2101248
+code_few n h = omega arith
+
+stubs_paged : (n : ℕ) → stubs_size n % 4096 ≡ 0
+stubs_paged n = omega arith
+
+stubs_enough : (n : ℕ) → 24 * n ≤ stubs_size n
+stubs_enough n = omega arith
+
+stubs_few : (n : ℕ) → n ≤ 65536 → stubs_size n ≤ 1572864
+stubs_few n h = omega arith
+
+-- parts of these sizes below a thin file's code
+fit_below : (code_len stubs_len entry : ℕ) (p : Parts) → code_len % 4096 ≡ 0 → 0 < code_len → code_len ≤ 2101248 → stubs_len % 4096 ≡ 0 → 0 < stubs_len → stubs_len ≤ 1572864 → p.base ≡ (parts_below 4096 code_len stubs_len thin_base).scratch → length p.tables ≡ 4096 → length p.code ≡ code_len → length p.stubs ≡ stubs_len → (parts_below 4096 code_len stubs_len thin_base).code ≤ entry → entry < (parts_below 4096 code_len stubs_len thin_base).stubs → PartsFit p entry
+fit_below code_len stubs_len entry p a b c d e f base tables code stubs from below = record {
+  base_paged = omega arith;
+  base_low = omega arith;
+  tables_paged = omega arith;
+  tables_some = omega arith;
+  code_paged = omega arith;
+  code_some = omega arith;
+  stubs_paged = omega arith;
+  stubs_some = omega arith;
+  ends = omega arith;
+  entry_from = omega arith;
+  entry_below = omega arith;
+}
+
+pub parts_fit : (nodes : List ℕ) (p : Parts) (entry : ℕ) → 1 ≤ length nodes → length nodes ≤ 65536 → IsAdded (thin_added (length nodes)) nodes p entry → PartsFit p entry
+parts_fit nodes p entry some few h =
+    let n = length nodes in
+    let a = thin_added n in
+    let c0 = code_paged n in
+    let c1 = code_some n in
+    let c2 = code_few n few in
+    let s0 = stubs_paged n in
+    let s1 = stubs_enough n in
+    let s2 = stubs_few n few in
+    let l = length-all_stubs nodes in
+    let stubs_long : a.stop - a.stubs ≡ stubs_size n = omega arith in
+    let code_long : a.stubs - a.code ≡ code_size n 0 0 = omega arith in
+    let tables_long : a.code - a.tables ≡ 4096 = omega arith in
+    let filled_long : length (filled (a.stop - a.stubs) (all_stubs nodes)) ≡ a.stop - a.stubs = length-filled (a.stop - a.stubs) (all_stubs nodes) (omega arith) in
+    fit_below (code_size n 0 0) (stubs_size n) entry p c0 c1 c2 s0 (omega arith) s2
+    h.base (h.tables ∙ tables_long) (h.code ∙ code_long) (ap length h.stubs ∙ (filled_long ∙ stubs_long)) h.entry_from h.entry_below
+
+-- the written file of a thin file with the added parts is inert
+pub inert_of : (x w : List ℕ) (kept : Record) (p : Parts) (entry : ℕ) → IsThin x → 1 ≤ length kept.nodes → length kept.nodes ≤ 65536 → IsAdded (added decode_first (image_of x) kept) kept.nodes p entry → w ≡ written_file x p entry → Inert decode_first x w kept
+inert_of x w kept p entry thin some few h bytes =
+    let a = added decode_first (image_of x) kept in
+    let at : a ≡ thin_added (length kept.nodes) = ap (λ (y : List ℕ). added decode_first (image_of y) kept) thin.file ∙ added-thin thin.code kept thin.some thin.few in
+    let fit : PartsFit p entry = parts_fit kept.nodes p entry some few (subst (λ (b : Added). IsAdded b kept.nodes p entry) at h) in
+    let file : w ≡ written_file (thin_file thin.code) p entry = bytes ∙ ap (λ (y : List ℕ). written_file y p entry) thin.file in
+    let b = h.base in
+    let s = h.stubs in
+    let same : p ≡ record { base = a.scratch; tables = p.tables; code = p.code; stubs = stubs_part a kept.nodes } = λ i. record { base = b i; tables = p.tables; code = p.code; stubs = s i } in
+    record {
+      tables = p.tables;
+      code = p.code;
+      entry = entry;
+      tables_long = h.tables;
+      code_long = h.code;
+      entry_in_code = (h.entry_from, h.entry_below);
+      bytes = bytes ∙ ap (λ (q : Parts). written_file x q entry) same;
+      accepted = ap fault_of file ∙ written_accepted thin.code p entry thin.some thin.few fit;
+      image = ap image_of file ∙ (written_image thin.code p entry thin.some thin.few fit ∙ ap₂ (λ (y : List ℕ) (q : Parts). new_image (image_of y) q entry) (sym thin.file) same);
+    }

@@ -1,0 +1,223 @@
+-- A fragment follows its instruction.
+use Rattle.std.proofs.Common.{◌≡◌, ℕ, zero, suc, ◌+◌, ◌%◌, ◌^◌, ◌<◌, ◌≤◌, inr, List, [], ◌∷◌, set, Option, Some, None, refl, sym, ap, ap₂, ◌∙◌, subst, arith, mod-eq_of_lt}
+use Rattle.rz_num.specs.declared.width.Width.{Width}
+use Rattle.rz_num.specs.declared.width.Width.TheVariants.{W32}
+use Rattle.rz_machine.specs.declared.flags.Flags.{Flags}
+use Rattle.rz_machine.specs.declared.insn.Reg.TheVariants.{R}
+use Rattle.rz_machine.specs.declared.insn.Place.TheVariants.{Reg}
+use Rattle.rz_machine.specs.declared.insn.Operand.TheVariants.{Imm}
+use Rattle.rz_machine.specs.declared.insn.Insn.{Insn}
+use Rattle.rz_machine.specs.declared.insn.Insn.TheVariants as insn
+use Rattle.rz_machine.specs.declared.decode.Decoded.{Decoded}
+use Rattle.rz_machine.specs.declared.decode.Decoded.TheVariants as decoded
+use Rattle.rz_machine.specs.declared.machine.End.{End}
+use Rattle.rz_machine.specs.declared.machine.End.TheVariants as end
+use Rattle.rz_machine.specs.declared.machine.Machine.{Machine}
+use Rattle.rz_machine.specs.declared.sys.World.{World}
+use Rattle.rz_machine.specs.Memory.{Regions, IsInside}
+use Rattle.rz_machine.specs.Insn.{Decoder}
+use Rattle.rz_machine.specs.First.{mov_number}
+use Rattle.rz_machine.specs.Effect.{Effect, effect, Done, Went, Stopped, carry, read_words, EffectClear}
+use Rattle.rz_machine.specs.Answer.{Called, answer, call_in, rdi, rsi, rdx, world_after}
+use Rattle.rz_machine.specs.State.{step, after, perform, perform_effect, after_done, after_call, after_exit, onward, stopped, flags_word}
+use Rattle.rz_machine.specs.Touches.{StepClear, InsnClear}
+use Rattle.rz_machine.specs.Added.{Layout}
+use Rattle.rz_machine.specs.Keeps.{Same, Edges, AlikeEnds}
+use Rattle.rz_machine.proofs.CodeLaws.{HasCode, step_code}
+use Rattle.rz_machine.proofs.OneForm.{DoneAlike, carry_alike, CalledAlike, call_alike}
+use Rattle.rz_machine.proofs.Runs.{dest, Follows, Stand}
+use Rattle.rz_machine.proofs.Placed.{InsnAt}
+use Rattle.rz_machine.proofs.Comes.{decodes_to, step_is, jump_is, ud2_is, Comes, stay, one_more, weaker, jump_comes, Onto, onto}
+
+-- RCX is set anew
+rcx_again : (regs : List ℕ) (x y z w : ℕ) → set (set (set (set regs 0 x) 1 y) 11 z) 1 w ≡ set (set (set regs 0 x) 1 w) 11 z
+rcx_again [] x y z w = refl
+rcx_again (a ∷ []) x y z w = refl
+rcx_again (a ∷ b ∷ regs) x y z w = refl
+
+-- a number moved to a register
+mov_is : (r v next : ℕ) (t : Machine) → v < 2 ^ 32 → perform (mov_number r v) next t ≡ record t { cpu = record t.cpu { regs = set t.cpu.regs r v; rip = next } }
+unfolding carry read_words
+mov_is r v next t low =
+    let P : ℕ → Machine = λ u. record t { cpu = record t.cpu { regs = set t.cpu.regs r u; rip = next } } in
+    let e : v % 2 ^ 32 ≡ v = mod-eq_of_lt low in
+    ap P e
+
+-- the fragment of the instruction at a, before n, stands at the place of a
+abbrev pub FragmentAt : Decoder → Edges → Layout → (ℕ → ℕ) → Regions → ℕ → ℕ → Insn → Type 0
+FragmentAt dec edges lay place wm a n (insn.Mov w dst src) = (p : ℕ) × InsnAt dec wm (place a) (insn.Mov w dst src) p × Onto dec wm p (dest edges place lay.stub a n)
+FragmentAt dec edges lay place wm a n (insn.Jmp b) = (p : ℕ) × InsnAt dec wm (place a) (insn.Jmp (dest edges place lay.stub a b)) p
+FragmentAt dec edges lay place wm a n insn.Syscall =
+    (p q : ℕ) × (n < 2 ^ 32) × InsnAt dec wm (place a) insn.Syscall p × InsnAt dec wm p (mov_number 1 n) q × Onto dec wm q (dest edges place lay.stub a n)
+FragmentAt dec edges lay place wm a n insn.Ud2 = (p : ℕ) × InsnAt dec wm (place a) insn.Ud2 p × IsInside lay.code (place a)
+
+module _ (dec : Decoder) (edges : Edges) (lay : Layout) (place bound : ℕ → ℕ) (room : (a : ℕ) → 3 ≤ bound a) (xm wm : Regions) where
+  abbrev To : ℕ → ℕ → ℕ
+  To a b = dest edges place lay.stub a b
+
+  -- the ends of a plain instruction name no place of the instruction
+  abbrev NoPlace : End → Type 0
+  NoPlace (end.Illegal a) = ⊥
+  NoPlace e = Unit {0}
+
+  same_ends : (e : End) → NoPlace e → AlikeEnds lay.code (Some e) (Some e)
+  same_ends (end.Illegal a) h = absurd h
+  same_ends (end.Exit n) h = refl
+  same_ends (end.Memory n) h = refl
+  same_ends (end.Fetch n) h = refl
+  same_ends (end.Unknown n) h = refl
+  same_ends end.Divide h = refl
+  same_ends end.Halted h = refl
+  same_ends end.Break h = refl
+  same_ends end.Popped h = refl
+
+  -- a plain instruction goes on to the next address, or ends at no place
+  abbrev IsPlain : Done → Type 0
+  IsPlain (Went regs flags mem to) = to ≡ None
+  IsPlain (Stopped why) = NoPlace why
+
+  -- both runs end
+  ends_now : (a : ℕ) (s t t' : Machine) (why why' : End) → step dec t ≡ t' → s.end ≡ Some why → t'.end ≡ Some why' → AlikeEnds lay.code (Some why) (Some why') → Same lay.added s t' → Follows dec edges lay place bound a s t
+  unfolding after
+  ends_now a s t t' why why' e over over' alike same =
+      record {
+        goes = λ runs. absurd (let f : Some why ≡ None = sym over ∙ runs in cc);
+        ends = λ w over2.
+            let f : Some why ≡ Some w = sym over ∙ over2 in
+            let g : why ≡ w = cc in
+            let P : End → Type 0 = λ v. AlikeEnds lay.code (Some v) (Some why') in
+            (1, omega arith, omega (arith, room a), why', ap (λ u. u.end) e ∙ over', subst P g alike, subst (Same lay.added s) (sym e) same);
+      }
+
+  -- both runs go on
+  goes_now : (a : ℕ) (s t : Machine) → s.end ≡ None → Comes dec lay.added s t 1 3 (To a s.cpu.rip) → Follows dec edges lay place bound a s t
+  goes_now a s t runs c =
+      record {
+        goes = λ r. (c.steps, omega (arith, c.enough), omega (arith, c.few, room a), c.runs, c.there, c.same);
+        ends = λ w over. absurd (let f : None ≡ Some w = sym runs ∙ over in cc);
+      }
+
+  -- after an effect
+  done_follows : (a n p : ℕ) (s t : Machine) (d d' : Done) → DoneAlike lay.added d d' → IsPlain d → Stand lay place xm wm s t → step dec t ≡ after_done d' p t → HasCode wm (after_done d' p t).mem → Onto dec wm p (To a n) → Follows dec edges lay place bound a (after_done d n s) t
+  done_follows a n p s t (Stopped why) (Stopped why') alike plain st e code ahead =
+      let P : End → Type 0 = λ v. AlikeEnds lay.code (Some why) (Some v) in
+      let same = st.same in
+      ends_now a _ t (stopped why' t) why why' e refl refl (subst P alike (same_ends why plain)) (record { regs = same.regs; flags = same.flags; world = same.world; mem = same.mem })
+  done_follows a n p s t (Went regs flags mem to) (Went regs' flags' mem' to') alike plain st e code ahead =
+      let t1 = after_done (Went regs' flags' mem' to') p t in
+      let s1 = after_done (Went regs flags mem to) n s in
+      let there : t1.cpu.rip ≡ p = ap (λ o. onward o p) (sym alike.3 ∙ plain) in
+      let here : s1.cpu.rip ≡ n = ap (λ o. onward o n) plain in
+      let same : Same lay.added s1 t1 = record { regs = alike.0; flags = alike.1; world = st.same.world; mem = alike.2 } in
+      let q = To a n in
+      let c : Comes dec lay.added s1 t 1 2 q = one_more dec lay.added s1 t t1 0 1 q e (onto dec lay.added wm p q ahead s1 t1 st.new_runs there code same) in
+      let P : ℕ → Type 0 = λ b. Comes dec lay.added s1 t 1 3 (To a b) in
+      goes_now a s1 t st.old_runs (subst P (sym here) (weaker dec lay.added s1 t 1 2 1 3 q (omega arith) (omega arith) c))
+  done_follows a n p s t (Went regs flags mem to) (Stopped why) alike plain st e code ahead = absurd alike
+  done_follows a n p s t (Stopped why) (Went regs flags mem to) alike plain st e code ahead = absurd alike
+
+  -- a plain instruction as it is, whatever its effect
+  pub plain_follows : (x : Insn) (a n p : ℕ) (s t : Machine) → InsnAt dec xm a x n → InsnAt dec wm (place a) x p → Onto dec wm p (To a n)
+      → ((next : ℕ) (u : Machine) → perform x next u ≡ perform_effect x next u)
+      → ((i k : ℕ) (regs : List ℕ) (flags : Flags) → effect x i regs flags ≡ effect x k regs flags)
+      → IsPlain (carry (effect x s.cpu.rip s.cpu.regs s.cpu.flags) s.mem)
+      → EffectClear lay.added (effect x s.cpu.rip s.cpu.regs s.cpu.flags) s.mem
+      → s.cpu.rip ≡ a → Stand lay place xm wm s t → Follows dec edges lay place bound a (step dec s) t
+  plain_follows x a n p s t old new ahead form any plain clear rip st =
+      let there : t.cpu.rip ≡ place a = st.there ∙ ap place rip in
+      let d = carry (effect x s.cpu.rip s.cpu.regs s.cpu.flags) s.mem in
+      let d' = carry (effect x t.cpu.rip t.cpu.regs t.cpu.flags) t.mem in
+      let e : step dec t ≡ after_done d' p t = step_is dec wm (place a) x p new t st.new_runs there st.new_code ∙ form p t in
+      let f : step dec s ≡ after_done d n s = step_is dec xm a x n old s st.old_runs rip st.old_code ∙ form n s in
+      let same : effect x s.cpu.rip s.cpu.regs s.cpu.flags ≡ effect x t.cpu.rip t.cpu.regs t.cpu.flags =
+      any s.cpu.rip t.cpu.rip s.cpu.regs s.cpu.flags ∙ ap₂ (λ r g. effect x t.cpu.rip r g) st.same.regs st.same.flags in
+      let P : Effect → Type 0 = λ v. DoneAlike lay.added d (carry v t.mem) in
+      let alike : DoneAlike lay.added d d' = subst P same (carry_alike lay.added s.mem t.mem (effect x s.cpu.rip s.cpu.regs s.cpu.flags) clear st.same.mem) in
+      let C : Machine → Type 0 = λ u. HasCode wm u.mem in
+      let code : HasCode wm (after_done d' p t).mem = subst C e (step_code wm dec t st.new_code) in
+      let Q : Machine → Type 0 = λ u. Follows dec edges lay place bound a u t in
+      subst Q (sym f) (done_follows a n p s t d d' alike plain st e code ahead)
+
+  -- what the step's accesses say of the instruction that stands there
+  insn_clear : (x : Insn) (a n : ℕ) (s : Machine) (at : InsnAt dec xm a x n) → s.cpu.rip ≡ a → s.end ≡ None → HasCode xm s.mem → StepClear lay.added dec s → InsnClear lay.added (decoded.Insn x at.len) s
+  unfolding StepClear
+  insn_clear x a n s at rip runs code clear =
+      let P : Decoded → Type 0 = λ d. InsnClear lay.added d s in
+      subst P (decodes_to dec xm a x n at s rip code) (clear runs)
+
+  jmp_follows : (a b n p : ℕ) (s t : Machine) → InsnAt dec xm a (insn.Jmp b) n → InsnAt dec wm (place a) (insn.Jmp (To a b)) p → s.cpu.rip ≡ a → Stand lay place xm wm s t → Follows dec edges lay place bound a (step dec s) t
+  jmp_follows a b n p s t old new rip st =
+      let there : t.cpu.rip ≡ place a = st.there ∙ ap place rip in
+      let s1 : Machine = record s { cpu = record s.cpu { rip = b } } in
+      let f : step dec s ≡ s1 = step_is dec xm a (insn.Jmp b) n old s st.old_runs rip st.old_code ∙ jump_is b n s in
+      let Q : Machine → Type 0 = λ u. Follows dec edges lay place bound a u t in
+      let same : Same lay.added s1 t = record { regs = st.same.regs; flags = st.same.flags; world = st.same.world; mem = st.same.mem } in
+      let c = jump_comes dec lay.added wm (place a) (To a b) p new s1 t st.new_runs there st.new_code same in
+      subst Q (sym f) (goes_now a s1 t st.old_runs (weaker dec lay.added s1 t 1 1 1 3 (To a b) (omega arith) (omega arith) c))
+
+  ud2_follows : (a n p : ℕ) (s t : Machine) → InsnAt dec xm a insn.Ud2 n → InsnAt dec wm (place a) insn.Ud2 p → IsInside lay.code (place a) → s.cpu.rip ≡ a → Stand lay place xm wm s t → Follows dec edges lay place bound a (step dec s) t
+  ud2_follows a n p s t old new inside rip st =
+      let there : t.cpu.rip ≡ place a = st.there ∙ ap place rip in
+      let f : step dec s ≡ stopped (end.Illegal s.cpu.rip) s = step_is dec xm a insn.Ud2 n old s st.old_runs rip st.old_code ∙ ud2_is n s in
+      let e : step dec t ≡ stopped (end.Illegal t.cpu.rip) t = step_is dec wm (place a) insn.Ud2 p new t st.new_runs there st.new_code ∙ ud2_is p t in
+      let Q : Machine → Type 0 = λ u. Follows dec edges lay place bound a u t in
+      let in_code : IsInside lay.code t.cpu.rip = subst (IsInside lay.code) (sym there) inside in
+      let same : Same lay.added (stopped (end.Illegal s.cpu.rip) s) (stopped (end.Illegal t.cpu.rip) t) = record { regs = st.same.regs; flags = st.same.flags; world = st.same.world; mem = st.same.mem } in
+      subst Q (sym f) (ends_now a (stopped (end.Illegal s.cpu.rip) s) t (stopped (end.Illegal t.cpu.rip) t) (end.Illegal s.cpu.rip) (end.Illegal t.cpu.rip) e refl refl (inr in_code) same)
+
+  world_alike : (regs regs' : List ℕ) (w w' : World) (c d : Called) → regs ≡ regs' → w ≡ w' → CalledAlike lay.added c d → world_after regs w c ≡ world_after regs' w' d
+  world_alike regs regs' w w' c d e f h = let x1 = h.answer in let x2 = h.bytes in let x3 = h.stdin in let x4 = h.replies in cc
+
+  -- after a call, which ends the run or goes on with RCX set to the old next address
+  call_follows : (a n p : ℕ) (s t : Machine) (c d : Called) (o : Option ℕ) → c.exit ≡ o → CalledAlike lay.added c d → Stand lay place xm wm s t → step dec t ≡ after_call d p t
+      → (q : ℕ) → n < 2 ^ 32 → InsnAt dec wm p (mov_number 1 n) q → Onto dec wm q (To a n)
+      → Follows dec edges lay place bound a (after_exit o c n s) t
+  call_follows a n p s t c d (Some status) exit alike st e q low mov ahead =
+      let e2 : step dec t ≡ after_exit (Some status) d p t = e ∙ ap (λ o. after_exit o d p t) (sym alike.exit ∙ exit) in
+      ends_now a (after_exit (Some status) c n s) t (after_exit (Some status) d p t) (end.Exit status) (end.Exit status) e2 refl refl refl
+      (record { regs = st.same.regs; flags = st.same.flags; world = world_alike s.cpu.regs t.cpu.regs s.world t.world c d st.same.regs st.same.world alike; mem = st.same.mem })
+  call_follows a n p s t c d None exit alike st e q low mov ahead =
+      let s1 = after_exit None c n s in
+      let t1 = after_exit None d p t in
+      let e1 : step dec t ≡ t1 = e ∙ ap (λ o. after_exit o d p t) (sym alike.exit ∙ exit) in
+      let C : Machine → Type 0 = λ u. HasCode wm u.mem in
+      let code1 : HasCode wm t1.mem = subst C e1 (step_code wm dec t st.new_code) in
+      let t2 : Machine = record t1 { cpu = record t1.cpu { regs = set t1.cpu.regs 1 n; rip = q } } in
+      let e2 : step dec t1 ≡ t2 = step_is dec wm p (mov_number 1 n) q mov t1 st.new_runs refl code1 ∙ mov_is 1 n q t1 low in
+      let code2 : HasCode wm t2.mem = code1 in
+      let regs : s1.cpu.regs ≡ t2.cpu.regs =
+      ap₂ (λ r f. set (set (set r 0 c.answer) 1 n) 11 (flags_word f)) st.same.regs st.same.flags
+      ∙ ap (λ x. set (set (set t.cpu.regs 0 x) 1 n) 11 (flags_word t.cpu.flags)) alike.answer
+      ∙ sym (rcx_again t.cpu.regs d.answer p (flags_word t.cpu.flags) n) in
+      let same : Same lay.added s1 t2 = record { regs = regs; flags = st.same.flags; world = world_alike s.cpu.regs t.cpu.regs s.world t.world c d st.same.regs st.same.world alike; mem = alike.mem } in
+      let there = To a n in
+      let last : Comes dec lay.added s1 t2 0 1 there = onto dec lay.added wm q there ahead s1 t2 st.new_runs refl code2 same in
+      let all : Comes dec lay.added s1 t 2 3 there = one_more dec lay.added s1 t t1 1 2 there e1 (one_more dec lay.added s1 t1 t2 0 1 there e2 last) in
+      goes_now a s1 t st.old_runs (weaker dec lay.added s1 t 2 3 1 3 there (omega arith) (omega arith) all)
+
+  syscall_follows : (a n p q : ℕ) (s t : Machine) (old : InsnAt dec xm a insn.Syscall n) → n < 2 ^ 32 → InsnAt dec wm (place a) insn.Syscall p → InsnAt dec wm p (mov_number 1 n) q → Onto dec wm q (To a n)
+      → InsnClear lay.added (decoded.Insn insn.Syscall old.len) s → s.cpu.rip ≡ a → Stand lay place xm wm s t → Follows dec edges lay place bound a (step dec s) t
+  unfolding answer
+  syscall_follows a n p q s t old low new mov ahead clear rip st =
+      let there : t.cpu.rip ≡ place a = st.there ∙ ap place rip in
+      let c = answer s.cpu.regs s.mem s.world in
+      let d = answer t.cpu.regs t.mem t.world in
+      let f : step dec s ≡ after_call c n s = step_is dec xm a insn.Syscall n old s st.old_runs rip st.old_code in
+      let e : step dec t ≡ after_call d p t = step_is dec wm (place a) insn.Syscall p new t st.new_runs there st.new_code in
+      let one = call_alike lay.added s.mem t.mem s.world (call_in s.cpu.regs) (rdi s.cpu.regs) (rsi s.cpu.regs) (rdx s.cpu.regs) clear st.same.mem in
+      let P : List ℕ → Type 0 = λ r. CalledAlike lay.added c (answer r t.mem s.world) in
+      let W : World → Type 0 = λ w. CalledAlike lay.added c (answer t.cpu.regs t.mem w) in
+      let alike : CalledAlike lay.added c d = subst W st.same.world (subst P st.same.regs one) in
+      let Q : Machine → Type 0 = λ u. Follows dec edges lay place bound a u t in
+      subst Q (sym f) (call_follows a n p s t c d c.exit refl alike st e q low mov ahead)
+
+  -- each fragment follows its instruction
+  pub fragment_follows : (a n : ℕ) (x : Insn) (s t : Machine) → InsnAt dec xm a x n → FragmentAt dec edges lay place wm a n x → s.cpu.rip ≡ a → Stand lay place xm wm s t → StepClear lay.added dec s → Follows dec edges lay place bound a (step dec s) t
+  unfolding carry read_words
+  fragment_follows a n (insn.Mov w (Reg (R r)) (Imm v)) s t old f rip st clear =
+      let x = insn.Mov w (Reg (R r)) (Imm v) in
+      let k = insn_clear x a n s old rip st.old_runs st.old_code clear in
+      plain_follows x a n f.0 s t old f.1 f.2 (λ next u. refl) (λ i k regs flags. refl) refl k rip st
+  fragment_follows a n (insn.Jmp b) s t old f rip st clear = jmp_follows a b n f.0 s t old f.1 rip st
+  fragment_follows a n insn.Syscall s t old f rip st clear = syscall_follows a n f.0 f.1 s t old f.2 f.3 f.4 f.5 (insn_clear insn.Syscall a n s old rip st.old_runs st.old_code clear) rip st
+  fragment_follows a n insn.Ud2 s t old f rip st clear = ud2_follows a n f.0 s t old f.1 f.2 rip st

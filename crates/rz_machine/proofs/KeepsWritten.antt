@@ -1,0 +1,204 @@
+-- A rewritten file keeps each run of the original.
+use Rattle.std.proofs.Common.{◌≡◌, ℕ, suc, ◌+◌, ◌-◌, ◌*◌, ◌%◌, ◌^◌, ◌<◌, ◌≤◌, true, List, [], ◌∷◌, ◌++◌, length, map, take, replicate, Option, Some, None, refl, sym, ap, ◌∙◌, subst, subst₂, arith, append_assoc, mod-eq_of_lt}
+use Rattle.std.specs.List.{AllByRecursion}
+use Rattle.rz_machine.specs.declared.insn.Insn.{Insn}
+use Rattle.rz_machine.specs.declared.insn.Insn.TheVariants as insn
+use Rattle.rz_machine.specs.declared.decode.Decoded.{Decoded}
+use Rattle.rz_machine.specs.declared.decode.Decoded.TheVariants as decoded
+use Rattle.rz_machine.specs.declared.items.Fragment.{Fragment}
+use Rattle.rz_machine.specs.declared.items.Item.{Item}
+use Rattle.rz_machine.specs.declared.items.Label.{Label}
+use Rattle.rz_machine.specs.declared.items.Label.TheVariants as label
+use Rattle.rz_machine.specs.declared.machine.End.TheVariants as end
+use Rattle.rz_machine.specs.declared.machine.Machine.{Machine}
+use Rattle.rz_machine.specs.declared.sys.Input.{Input}
+use Rattle.rz_machine.specs.declared.trace.Record.{Record}
+use Rattle.rz_machine.specs.Memory.{Regions, Range, IsInside, IsOutside, SameCell, Alike, PermsStand, cell_at, fetch, wrap}
+use Rattle.rz_machine.specs.Insn.{IsNamed}
+use Rattle.rz_machine.specs.State.{step}
+use Rattle.rz_machine.specs.Touches.{StepClear}
+use Rattle.rz_machine.specs.Start.{start, heap_region, stack_region, first_regs, first_rsp}
+use Rattle.rz_machine.specs.Nodes.{spelled_at}
+use Rattle.rz_machine.specs.First.{decode_first, Spells}
+use Rattle.rz_machine.specs.TableLaws.{NamesInsn}
+use Rattle.rz_machine.specs.FirstLaws.{names_insns, spelled_where_decoded}
+use Rattle.rz_machine.specs.Elf.{Image}
+use Rattle.rz_machine.specs.Added.{Added, Layout, added, layout_of, all_stubs, index_of}
+use Rattle.rz_machine.specs.WrittenFile.{Parts, added_regions, without_code, new_image}
+use Rattle.rz_machine.specs.Keeps.{KeepsRun}
+use Rattle.rz_machine.specs.Pace.{Paced}
+use Rattle.rz_machine.specs.Rewritable.{IsRewritable, has_node}
+use Rattle.rz_machine.specs.Fragments.{items_of, items_for, trimmed, items_len, resolved, address_of, items_bytes}
+use Rattle.rz_machine.specs.PlainImage.{IsPlainImage, IsPlainRegion}
+use Rattle.rz_machine.specs.Rewritten.{HasRoom, IsRewritten, fragments_of, place_of, code_of_nodes}
+use Rattle.rz_machine.proofs.CodeLaws.{HasCode}
+use Rattle.rz_machine.proofs.RegLaws.{AreRegs, set_regs}
+use Rattle.rz_machine.proofs.Runs.{Follows, Stand, keeps, paced}
+use Rattle.rz_machine.proofs.Placed.{BytesAt, bytes_front, InsnAt, InsnsAt, insn_of_spelling, AllSpelled, items_stand}
+use Rattle.rz_machine.proofs.Comes.{step_is, ud2_is}
+use Rattle.rz_machine.proofs.Fragment.{FragmentAt, fragment_follows}
+use Rattle.rz_machine.proofs.Trimmed.{spelled_trimmed, spelled_items_of, length-trimmed, length-items_of, fragment_stands}
+use Rattle.rz_machine.proofs.Emitted.{items, Found, found}
+use Rattle.rz_machine.proofs.Cells.{IsFixed, all_map, none_self_written, plain_cell, fetch_bytes, fetch_low}
+use Rattle.rz_machine.proofs.Images.{all_append, stripped_fixed, stripped_same, Whole, code_at, stubs_at, stop_at, code_there, stubs_there, beside, added_fixed}
+use Rattle.rz_machine.proofs.PlainNodes.{plain_fixed, Stands, stands}
+use Rattle.rz_machine.proofs.Parts.{Lie, stub_found}
+use Rattle.rz_machine.proofs.RewrittenLaws.{code_room, stubs_room, place_below, place_in_code, stop_low, label_low, lie}
+use Rattle.rz_machine.proofs.StartCode.{start_code}
+
+-- the registers at the start
+first_regs-are : (input : Input) → AreRegs (first_regs input)
+unfolding first_regs first_rsp
+first_regs-are input = set_regs (replicate 16 0) 4 _ (record { sixteen = refl; words = zeros }) (omega arith)
+  where
+    zero_word : 0 < 2 ^ 64
+    zero_word = omega arith
+
+    zeros : AllByRecursion (λ v. v < 2 ^ 64) (replicate 16 0)
+    zeros = let z = zero_word in (z, (z, (z, (z, (z, (z, (z, (z, (z, (z, (z, (z, (z, (z, (z, (z, tt))))))))))))))))
+
+module _ (x : Image) (kept : Record) (parts : Parts) (entry : ℕ) (can : IsRewritable decode_first x kept) (plain : IsPlainImage x) (room : HasRoom decode_first x kept) (are : IsRewritten decode_first x kept parts entry) (input : Input) where
+  abbrev a : Added
+  a = added decode_first x kept
+
+  abbrev lay : Layout
+  lay = layout_of decode_first x kept
+
+  abbrev place : ℕ → ℕ
+  place = place_of decode_first x kept
+
+  abbrev at : Label → ℕ
+  at = address_of (fragments_of decode_first x kept) kept.nodes a
+
+  abbrev IsKept : ℕ → Type 0
+  IsKept b = has_node kept.nodes b ≡ true
+
+  abbrev old : Machine
+  old = start x input
+
+  abbrev new : Machine
+  new = start (new_image x parts entry) input
+
+  -- the heap and the stack
+  abbrev ends : Regions
+  ends = heap_region x.first_break ∷ stack_region input ∷ []
+
+  abbrev rest : Regions
+  rest = map without_code x.loads ++ ends
+
+  new_mem : new.mem ≡ Whole parts rest
+  new_mem = append_assoc (added_regions parts) (map without_code x.loads) ends
+
+  where_parts_lie : Lie a parts.base (length parts.tables) (length parts.code) (length parts.stubs)
+  where_parts_lie = lie decode_first x kept room parts entry are.parts_added
+
+  -- both memories are alike at the start
+  alike : Alike lay.added old.mem new.mem
+  alike = record { at = same }
+    where
+      outside : (b : ℕ) → IsOutside lay.added b → IsOutside (record { low = parts.base; high = stop_at parts rest }) b
+      outside b out =
+          let P : ℕ → ℕ → Type 0 = λ l h. IsOutside (record { low = l; high = h }) b in
+          subst₂ P (sym where_parts_lie.scratch) (sym where_parts_lie.stop) out
+
+      same : (b : ℕ) → IsOutside lay.added b → SameCell (cell_at old.mem b) (cell_at new.mem b)
+      same b out = rw (new_mem, beside parts rest b (outside b out)) (stripped_same x.loads ends b)
+
+  old_code : HasCode x.loads old.mem
+  old_code = start_code x input (none_self_written x.loads (plain_fixed x.loads plain))
+
+  new_code : HasCode new.mem new.mem
+  new_code =
+      let loads = (new_image x parts entry).loads in
+      let fixed = all_append IsFixed (added_regions parts) (map without_code x.loads) (added_fixed parts rest) (stripped_fixed x.loads) in
+      record { same = record { at = λ b. refl }; fixed = (start_code (new_image x parts entry) input (none_self_written loads fixed)).fixed }
+
+  code_bytes : BytesAt new.mem a.code (code_of_nodes decode_first x kept ++ are.fill)
+  code_bytes =
+      let P : Regions → ℕ → Type 0 = λ m p. BytesAt m p (code_of_nodes decode_first x kept ++ are.fill) in
+      subst (λ p. P new.mem p) where_parts_lie.code (subst (λ m. P m (code_at parts rest)) (sym new_mem) (subst (BytesAt (Whole parts rest) (code_at parts rest)) are.code (code_there parts rest)))
+
+  stub_bytes : BytesAt new.mem a.stubs parts.stubs
+  stub_bytes =
+      subst (λ p. BytesAt new.mem p parts.stubs) where_parts_lie.stubs (subst (λ m. BytesAt m (stubs_at parts rest) parts.stubs) (sym new_mem) (stubs_there parts rest))
+
+  -- the fragment of each kept node stands
+  fragment_at : (b : ℕ) (y : Insn) (len : ℕ) → IsKept b → Stands x plain b y len → FragmentAt decode_first kept.edges lay place new.mem b (wrap (b + len)) y
+  fragment_at b y len node s =
+      let code : ℕ = a.code in
+      let f : Found decode_first x.loads kept.edges new.mem at kept.nodes code b = found decode_first x.loads kept.edges new.mem at kept.nodes code b are.fill can.ascending node code_bytes in
+      let n : ℕ = wrap (b + len) in
+      let next : n < 2 ^ 32 = wrapped (b + len) s.low in
+      let whole : List Item = items_of kept.edges b n y in
+      let its : List Item = trimmed f.following whole in
+      let same : items decode_first x.loads kept.edges b f.following ≡ its = ap (λ d. trimmed f.following (items_for kept.edges b d)) s.spelled in
+      let bytes : BytesAt new.mem (place b) (items_bytes at (place b) its) = subst (λ l. BytesAt new.mem (place b) (items_bytes at (place b) l)) same f.bytes in
+      let top : place b + 512 ≤ 0x70000000 = below (place b) a.stubs (length kept.nodes) a.stop (place_below decode_first x kept room b) (stubs_room decode_first x kept room) (stop_low decode_first x kept room plain) in
+      let few : items_len its ≤ 12 = at_most (items_len its) (items_len whole) (length-trimmed f.following whole) (length-items_of kept.edges b n y) in
+      let spelled : AllSpelled at (place b) whole = spelled_items_of at (label_low decode_first x kept room plain) kept.edges b n _ b y s.spells (place b) (near (place b) top) next in
+      let all : AllSpelled at (place b) its = spelled_trimmed at f.following (place b) whole spelled in
+      let stand = items_stand new.mem at (place b) its bytes all (far (place b) (items_len its) top few) in
+      fragment_stands decode_first kept.edges lay place new.mem at (λ c. refl) (λ c. refl) b n y f.following (place b + items_len its)
+      (λ c e. ap (λ l. place b + items_len l) (sym same) ∙ (f.next c e).1) next (place_in_code decode_first x kept room b node) stand
+    where
+      wrapped : (v : ℕ) → v ≤ 0x70000000 → wrap v < 2 ^ 32
+      wrapped v h = omega arith
+
+      below : (p stubs n stop : ℕ) → p + 512 ≤ stubs → stubs + 24 * n ≤ stop → stop ≤ 0x70000000 → p + 512 ≤ 0x70000000
+      below p stubs n stop h k l = omega arith
+
+      at_most : (u v : ℕ) → u ≤ v → v ≤ 12 → u ≤ 12
+      at_most u v h k = omega arith
+
+      near : (p : ℕ) → p + 512 ≤ 0x70000000 → p + 12 < 2 ^ 31
+      near p h = omega arith
+
+      far : (p l : ℕ) → p + 512 ≤ 0x70000000 → l ≤ 12 → p + l < 2 ^ 64
+      far p l h k = omega arith
+
+  -- and follows it
+  each : (s t : Machine) → IsKept s.cpu.rip → Stand lay place x.loads new.mem s t → StepClear lay.added decode_first s → Follows decode_first kept.edges lay place (λ b. 3) s.cpu.rip (step decode_first s) t
+  each s t node st clear =
+      let b : ℕ = s.cpu.rip in
+      let nd = can.nodes b node in
+      let here : InsnAt decode_first x.loads b nd.insn (wrap (b + nd.len)) = record { len = nd.len; spelled = nd.spelled; ends = refl } in
+      let fragment = fragment_at b nd.insn nd.len node (stands x plain b nd.insn nd.len nd.spelled) in
+      fragment_follows decode_first kept.edges lay place (λ c. 3) (λ c. omega arith) x.loads new.mem b (wrap (b + nd.len)) nd.insn s t here fragment refl st clear
+
+  -- a kept node's stub ends the run
+  stub_stops : (t : Machine) (b : ℕ) → IsKept b → t.end ≡ None → HasCode new.mem t.mem → t.cpu.rip ≡ lay.stub b → (step decode_first t).end ≡ Some (end.Illegal t.cpu.rip)
+  stub_stops t b node runs code there =
+      let p : ℕ = lay.stub b in
+      let fill : List ℕ = replicate (a.stop - a.stubs - length (all_stubs kept.nodes)) 0xcc in
+      let bytes : BytesAt new.mem a.stubs (all_stubs kept.nodes ++ fill) = subst (BytesAt new.mem a.stubs) are.parts_added.stubs stub_bytes in
+      let low : p + 2 < 2 ^ 64 = far p (label_low decode_first x kept room plain (label.Stub b)) in
+      let stop : InsnAt decode_first new.mem p insn.Ud2 (p + 2) = insn_of_spelling new.mem p insn.Ud2 (stub_found new.mem a.stubs b kept.nodes fill node bytes) tt low in
+      ap (λ u. u.end) (step_is decode_first new.mem p insn.Ud2 (p + 2) stop t runs there code ∙ ud2_is (p + 2) t)
+    where
+      far : (p : ℕ) → p < 2 ^ 31 → p + 2 < 2 ^ 64
+      far p h = omega arith
+
+  -- both runs stand at the start
+  standing : Stand lay place x.loads new.mem old new
+  standing =
+      record {
+        old_runs = refl;
+        new_runs = refl;
+        there = are.begins;
+        same = record { regs = refl; flags = refl; world = refl; mem = alike };
+        regs = first_regs-are input;
+        old_code = old_code;
+        new_code = new_code;
+        perms = record { at = λ b i. record { read = refl; write = refl; execute = refl } };
+      }
+
+  named : (b : ℕ) → IsKept b → (y : Insn) (len : ℕ) → spelled_at decode_first x.loads b ≡ decoded.Insn y len → IsNamed y
+  named b node y len e = (stands x plain b y len e).named
+
+  -- the new file's run keeps the old one's
+  pub keeps_written : KeepsRun decode_first kept.edges (layout_of decode_first x kept) (start x input) (start (new_image x parts entry) input)
+  keeps_written = keeps decode_first kept.edges lay place (λ b. 3) IsKept x.loads new.mem named can.ends each stub_stops old new can.entry standing
+
+  -- with one to three steps for each
+  pub paced_written : Paced decode_first kept.edges (layout_of decode_first x kept) (λ b. 3) (start x input) (start (new_image x parts entry) input)
+  paced_written = paced decode_first kept.edges lay place (λ b. 3) IsKept x.loads new.mem named can.ends each stub_stops old new can.entry standing

@@ -1,0 +1,72 @@
+-- The added parts of a rewritten file: where they lie, and that fragments and stubs fit them.
+use Rattle.std.proofs.Common.{◌≡◌, ◌≢◌, ℕ, ◌+◌, ◌-◌, ◌*◌, ◌/◌, ◌%◌, ◌<◌, ◌≤◌, Bool, true, false, ◌||◌, if◌then◌else◌, ◌==◌, List, [], ◌∷◌, ◌++◌, length, min, replicate, refl, sym, ap, ◌∙◌, subst, arith, append_assoc, length-append, eqb-true}
+use Rattle.std.specs.List.{AllByRecursion}
+use Rattle.std.proofs.lemmas.List.{length-replicate}
+use Rattle.rz_num.specs.Page.{page_up}
+use Rattle.rz_machine.specs.declared.memory.Region.{Region}
+use Rattle.rz_machine.specs.Memory.{Regions}
+use Rattle.rz_machine.specs.Added.{Added, lowest, page_floor, parts_below, scratch_size, stub_bytes, all_stubs, filled, index_of}
+use Rattle.rz_machine.specs.Rewritable.{has_node}
+use Rattle.rz_machine.specs.PlainImage.{IsPlainRegion}
+use Rattle.rz_machine.proofs.Placed.{BytesAt, bytes_back}
+
+-- rounding up doesn't lower
+pub page_up-least : (n : ℕ) → n ≤ page_up n
+page_up-least n = omega arith
+
+-- the lowest load of a plain image begins at a low address
+pub lowest_low : (m : Regions) → AllByRecursion IsPlainRegion m → lowest m ≤ 0x70000000
+lowest_low [] h = omega arith
+lowest_low (r ∷ []) h = let p = h.0.low in omega (arith, p)
+lowest_low (r ∷ s ∷ rest) h = let p = h.0.low in omega (arith, p)
+
+-- where the parts of a file lie, by their sizes
+pub record Lie (a : Added) (base t c s : ℕ) : Type 0 where
+  pub scratch : base ≡ a.scratch
+  pub code : base + scratch_size + t ≡ a.code
+  pub stubs : base + scratch_size + t + c ≡ a.stubs
+  pub stop : base + scratch_size + t + c + s ≡ a.stop
+
+pub parts_lie : (tables_len code_len stubs_len stop base t c s : ℕ) → scratch_size + tables_len + code_len + stubs_len ≤ stop
+    → let a = parts_below tables_len code_len stubs_len stop in base ≡ a.scratch → t ≡ a.code - a.tables → c ≡ a.stubs - a.code → s ≡ a.stop - a.stubs → Lie a base t c s
+parts_lie tables_len code_len stubs_len stop base t c s room b tl cl sl = record { scratch = b; code = omega arith; stubs = omega arith; stop = omega arith }
+
+-- parts that fit are as long as their sizes say
+pub code_size_is : (code_len stubs_len stop : ℕ) → code_len + stubs_len ≤ stop → stop - stubs_len - (stop - stubs_len - code_len) ≡ code_len
+code_size_is code_len stubs_len stop room = omega arith
+
+pub stubs_size_is : (stubs_len stop : ℕ) → stubs_len ≤ stop → stop - (stop - stubs_len) ≡ stubs_len
+stubs_size_is stubs_len stop room = omega arith
+
+-- a part filled up is as long as it should be
+pub length-filled : (len : ℕ) (bytes : List ℕ) → length bytes ≤ len → length (filled len bytes) ≡ len
+length-filled len bytes h = let a = length-append bytes (replicate (len - length bytes) 0xcc) in let b = length-replicate {A = ℕ} (len - length bytes) 0xcc in omega (arith, a, b)
+
+-- 24 bytes a stub
+pub length-all_stubs : (nodes : List ℕ) → length (all_stubs nodes) ≡ 24 * length nodes
+length-all_stubs [] = refl
+length-all_stubs (a ∷ nodes) = let e = length-append (stub_bytes a) (all_stubs nodes) in let h = length-all_stubs nodes in omega (arith, e, h)
+
+-- a place in a list is not past its end
+pub index_low : (nodes : List ℕ) (a : ℕ) → index_of nodes a ≤ length nodes
+index_low [] a = omega arith
+index_low (c ∷ nodes) a = go (c == a) (index_low nodes a)
+  where
+    go : (b : Bool) → index_of nodes a ≤ length nodes → (if b then 0 else 1 + index_of nodes a) ≤ length (c ∷ nodes)
+    go true h = omega arith
+    go false h = omega (arith, h)
+
+-- the stub of a node begins with UD2
+pub stub_found : (m : Regions) (base a : ℕ) (nodes fill : List ℕ) → has_node nodes a ≡ true → BytesAt m base (all_stubs nodes ++ fill) → BytesAt m (base + 24 * index_of nodes a) (0x0f ∷ 0x0b ∷ [])
+stub_found m base a [] fill e h = absurd (cc)
+stub_found m base a (c ∷ nodes) fill e h =
+    go (c == a) e (λ f. stub_found m (base + 24) a nodes fill f (bytes_back m base (stub_bytes c) (all_stubs nodes ++ fill) split))
+  where
+    split : BytesAt m base (stub_bytes c ++ (all_stubs nodes ++ fill))
+    split = subst (BytesAt m base) (append_assoc (stub_bytes c) (all_stubs nodes) fill) h
+
+    go : (b : Bool) → (b || has_node nodes a) ≡ true → (has_node nodes a ≡ true → BytesAt m (base + 24 + 24 * index_of nodes a) (0x0f ∷ 0x0b ∷ [])) → BytesAt m (base + 24 * (if b then 0 else 1 + index_of nodes a)) (0x0f ∷ 0x0b ∷ [])
+    go true f ih = let n : base ≡ base + 24 * 0 = omega arith in subst (λ p. BytesAt m p (0x0f ∷ 0x0b ∷ [])) n (split.0, (split.1.0, tt))
+    go false f ih =
+        let n : base + 24 + 24 * index_of nodes a ≡ base + 24 * (1 + index_of nodes a) = omega arith in
+        subst (λ p. BytesAt m p (0x0f ∷ 0x0b ∷ [])) n (ih f)

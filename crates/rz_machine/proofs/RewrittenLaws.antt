@@ -1,0 +1,90 @@
+-- The places in a rewritten file: fragments lie in the code part, stubs behind it, all at low addresses.
+use Rattle.std.proofs.Common.{◌≡◌, ℕ, ◌+◌, ◌-◌, ◌*◌, ◌^◌, ◌<◌, ◌≤◌, true, List, ◌++◌, length, refl, sym, ap, ◌∙◌, arith, length-append}
+use Rattle.rz_machine.specs.declared.items.Fragment.{Fragment}
+use Rattle.rz_machine.specs.declared.items.Label.{Label}
+use Rattle.rz_machine.specs.declared.items.Label.TheVariants as label
+use Rattle.rz_machine.specs.declared.trace.Record.{Record}
+use Rattle.rz_machine.specs.Insn.{Decoder}
+use Rattle.rz_machine.specs.Elf.{Image}
+use Rattle.rz_machine.specs.Added.{Added, added, lowest, page_floor, all_stubs, index_of, sites, site_edges, tables_size, code_size, stubs_size}
+use Rattle.rz_machine.specs.WrittenFile.{Parts, IsAdded, stubs_part}
+use Rattle.rz_machine.specs.Rewritable.{IsRewritable, has_node}
+use Rattle.rz_machine.specs.Fragments.{address_of}
+use Rattle.rz_machine.specs.PlainImage.{IsPlainImage}
+use Rattle.rz_machine.specs.Rewritten.{HasRoom, fragments_of, place_of}
+use Rattle.rz_machine.proofs.Emitted.{total_len, place_low, place_from, total_most}
+use Rattle.rz_machine.proofs.Parts.{code_size_is, stubs_size_is, page_up-least, lowest_low, Lie, parts_lie, length-filled, length-all_stubs, index_low}
+
+module _ (dec : Decoder) (x : Image) (kept : Record) (room : HasRoom dec x kept) where
+  abbrev a : Added
+  a = added dec x kept
+
+  abbrev size : ℕ
+  size = length kept.nodes
+
+  abbrev j : ℕ
+  j = length (sites dec x.loads kept.nodes)
+
+  abbrev e : ℕ
+  e = length (site_edges dec x.loads kept.edges)
+
+  abbrev frags : List Fragment
+  frags = fragments_of dec x kept
+
+  -- the code part has 32 bytes a node and more
+  pub code_room : a.code + (32 * size + 512) ≤ a.stubs
+  code_room = go (tables_size j e) (code_size size j e) (stubs_size size) (page_floor (lowest x.loads)) room (page_up-least (32 * size + 160 * j + 48 * e + 512))
+    where
+      go : (t c s stop : ℕ) → 4096 + t + c + s ≤ stop → 32 * size + 160 * j + 48 * e + 512 ≤ c → stop - s - c + (32 * size + 512) ≤ stop - s
+      go t c s stop h long = omega arith
+
+  -- the stubs part has 24 bytes a node
+  pub stubs_room : a.stubs + 24 * size ≤ a.stop
+  stubs_room = go (tables_size j e) (code_size size j e) (stubs_size size) (page_floor (lowest x.loads)) room (page_up-least (24 * size))
+    where
+      go : (t c s stop : ℕ) → 4096 + t + c + s ≤ stop → 24 * size ≤ s → stop - s + 24 * size ≤ stop
+      go t c s stop h long = omega arith
+
+  -- no place is beyond the code part
+  pub place_below : (b : ℕ) → place_of dec x kept b + 512 ≤ a.stubs
+  place_below b = let h = place_low frags a.code b in let k = total_most dec x.loads kept.edges kept.nodes in let r = code_room in omega (arith, h, k, r)
+
+  -- the fragments of the kept nodes lie in it
+  pub place_in_code : (b : ℕ) → has_node kept.nodes b ≡ true → (a.code ≤ place_of dec x kept b) × (place_of dec x kept b < a.stubs)
+  place_in_code b e = let h = place_below b in (place_from dec x.loads kept.edges kept.nodes a.code b e, omega (arith, h))
+
+module _ (dec : Decoder) (x : Image) (kept : Record) (room : HasRoom dec x kept) (plain : IsPlainImage x) where
+  -- the parts end at a low address
+  pub stop_low : (added dec x kept).stop ≤ 0x70000000
+  stop_low = go (lowest x.loads) (lowest_low x.loads plain)
+    where
+      go : (v : ℕ) → v ≤ 0x70000000 → page_floor v ≤ 0x70000000
+      go v h = omega arith
+
+  -- so each label's address is low
+  pub label_low : (to : Label) → address_of (fragments_of dec x kept) kept.nodes (added dec x kept) to < 2 ^ 31
+  label_low (label.Place b) = let h = place_below dec x kept room b in let k = stubs_room dec x kept room in let s = stop_low in omega (arith, h, k, s)
+  label_low (label.Stub b) = let h = index_low kept.nodes b in let k = stubs_room dec x kept room in let s = stop_low in omega (arith, h, k, s)
+
+module _ (dec : Decoder) (x : Image) (kept : Record) (room : HasRoom dec x kept) (parts : Parts) (entry : ℕ) (are : IsAdded (added dec x kept) kept.nodes parts entry) where
+  abbrev sites_len : ℕ
+  sites_len = length (sites dec x.loads kept.nodes)
+
+  abbrev edges_len : ℕ
+  edges_len = length (site_edges dec x.loads kept.edges)
+
+  -- the stubs fill their part
+  pub length-stubs_part : length parts.stubs ≡ (added dec x kept).stop - (added dec x kept).stubs
+  length-stubs_part =
+      let all : length (all_stubs kept.nodes) ≡ 24 * length kept.nodes = length-all_stubs kept.nodes in
+      let h : (added dec x kept).stubs + 24 * length kept.nodes ≤ (added dec x kept).stop = stubs_room dec x kept room in
+      ap length are.stubs ∙ length-filled ((added dec x kept).stop - (added dec x kept).stubs) (all_stubs kept.nodes) (few (added dec x kept).stubs (added dec x kept).stop (length kept.nodes) (length (all_stubs kept.nodes)) all h)
+    where
+      few : (stubs stop n l : ℕ) → l ≡ 24 * n → stubs + 24 * n ≤ stop → l ≤ stop - stubs
+      few stubs stop n l e h = omega arith
+
+  -- where the parts lie
+  pub lie : Lie (added dec x kept) parts.base (length parts.tables) (length parts.code) (length parts.stubs)
+  lie =
+      parts_lie (tables_size sites_len edges_len) (code_size (length kept.nodes) sites_len edges_len) (stubs_size (length kept.nodes)) (page_floor (lowest x.loads))
+      parts.base (length parts.tables) (length parts.code) (length parts.stubs) room are.base are.tables are.code length-stubs_part

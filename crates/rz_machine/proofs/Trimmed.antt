@@ -1,0 +1,126 @@
+-- A fragment's items: spelled at their places, without a last jump to what follows, they do what the instruction needs.
+use Rattle.std.proofs.Common.{◌≡◌, ℕ, suc, ◌+◌, ◌^◌, ◌<◌, ◌≤◌, Bool, true, false, if◌then◌else◌, ◌==◌, List, [], ◌∷◌, ◌++◌, map, Option, Some, None, refl, sym, ap, ◌∙◌, subst, arith, eqb-true}
+use Rattle.rz_machine.specs.declared.insn.Insn.{Insn}
+use Rattle.rz_machine.specs.declared.insn.Insn.TheVariants as insn
+use Rattle.rz_machine.specs.declared.items.Label.{Label}
+use Rattle.rz_machine.specs.declared.items.Label.TheVariants as label
+use Rattle.rz_machine.specs.declared.items.Item.{Item}
+use Rattle.rz_machine.specs.declared.items.Item.TheVariants as item
+use Rattle.rz_machine.specs.Memory.{Regions, IsInside}
+use Rattle.rz_machine.specs.Insn.{Decoder}
+use Rattle.rz_machine.specs.First.{mov_number, Spells, spells_mov, spells_jmp, spells_syscall, spells_ud2}
+use Rattle.rz_machine.specs.Added.{Layout}
+use Rattle.rz_machine.specs.Keeps.{Edges, has_edge}
+use Rattle.rz_machine.specs.Fragments.{to_label, items_of, is_following, trimmed, item_len, items_len, resolved}
+use Rattle.rz_machine.proofs.Runs.{dest}
+use Rattle.rz_machine.proofs.Placed.{InsnAt, InsnsAt, AllSpelled}
+use Rattle.rz_machine.proofs.Comes.{Onto, Falls, Jumps}
+use Rattle.rz_machine.proofs.Fragment.{FragmentAt}
+
+-- a list of three items or more is trimmed behind its first
+trimmed-cons : (following : Option ℕ) (i j k : Item) (rest : List Item) → trimmed following (i ∷ j ∷ k ∷ rest) ≡ i ∷ trimmed following (j ∷ k ∷ rest)
+trimmed-cons following i (item.Jump to) k rest = refl
+trimmed-cons following i (item.Whole x) k rest = refl
+
+-- trimmed items are spelled too
+pub spelled_trimmed : (at : Label → ℕ) (following : Option ℕ) (from : ℕ) (items : List Item) → AllSpelled at from items → AllSpelled at from (trimmed following items)
+spelled_trimmed at following from [] h = tt
+spelled_trimmed at following from (i ∷ []) h = h
+spelled_trimmed at following from (i ∷ item.Jump to ∷ []) h = go (is_following following to)
+  where
+    go : (b : Bool) → AllSpelled at from (if b then i ∷ [] else (i ∷ item.Jump to ∷ []))
+    go true = (h.0, tt)
+    go false = h
+spelled_trimmed at following from (i ∷ item.Whole x ∷ []) h = h
+spelled_trimmed at following from (i ∷ j ∷ k ∷ rest) h =
+    subst (AllSpelled at from) (sym (trimmed-cons following i j k rest)) (h.0, spelled_trimmed at following (from + item_len i) (j ∷ k ∷ rest) h.1)
+
+-- and no longer
+pub length-trimmed : (following : Option ℕ) (items : List Item) → items_len (trimmed following items) ≤ items_len items
+length-trimmed following [] = omega arith
+length-trimmed following (i ∷ []) = omega arith
+length-trimmed following (i ∷ item.Jump to ∷ []) = go (is_following following to)
+  where
+    go : (b : Bool) → items_len (if b then i ∷ [] else (i ∷ item.Jump to ∷ [])) ≤ item_len i + (5 + 0)
+    go true = omega arith
+    go false = omega arith
+length-trimmed following (i ∷ item.Whole x ∷ []) = omega arith
+length-trimmed following (i ∷ j ∷ k ∷ rest) =
+    let e : items_len (trimmed following (i ∷ j ∷ k ∷ rest)) ≡ item_len i + items_len (trimmed following (j ∷ k ∷ rest)) = ap items_len (trimmed-cons following i j k rest) in
+    let h = length-trimmed following (j ∷ k ∷ rest) in
+    omega (arith, e, h)
+
+-- the items of an instruction take at most 12 bytes
+pub length-items_of : (edges : Edges) (a n : ℕ) (x : Insn) → items_len (items_of edges a n x) ≤ 12
+length-items_of edges a n (insn.Mov w dst src) = omega arith
+length-items_of edges a n (insn.Jmp target) = omega arith
+length-items_of edges a n insn.Syscall = omega arith
+length-items_of edges a n insn.Ud2 = omega arith
+
+-- the items of an instruction that the table spells are spelled at any place from which they end below 2^31
+pub spelled_items_of : (at : Label → ℕ) → ((to : Label) → at to < 2 ^ 31) → (edges : Edges) (a n : ℕ) (s : List ℕ) (b : ℕ) (x : Insn) → Spells s b x → (from : ℕ) → from + 12 < 2 ^ 31 → n < 2 ^ 32 → AllSpelled at from (items_of edges a n x)
+spelled_items_of at low edges a n s b x (spells_mov c r v small fits) from top next = ((refl, small, fits), ((omega arith, low (to_label edges a n)), tt))
+spelled_items_of at low edges a n s b x (spells_jmp c d fits) from top next = ((omega arith, low (to_label edges a _)), tt)
+spelled_items_of at low edges a n s b x (spells_syscall c) from top next = (tt, ((refl, omega arith, next), ((omega arith, low (to_label edges a n)), tt)))
+spelled_items_of at low edges a n s b x (spells_ud2 c) from top next = (tt, tt)
+
+module _ (dec : Decoder) (m : Regions) (at : Label → ℕ) (following : Option ℕ) (q : ℕ) (falls : (b : ℕ) → following ≡ Some b → q ≡ at (label.Place b)) where
+  -- the items stand from a place to where the fragment ends
+  abbrev Trimmed : ℕ → List Item → Type 0
+  Trimmed p items = InsnsAt dec m p (map (resolved at) (trimmed following items)) q
+
+  -- the first items stand, and from their end the run comes to a label
+  abbrev Leads : ℕ → List Item → Label → Type 0
+  Leads p front to = (r : ℕ) × InsnsAt dec m p (map (resolved at) front) r × Onto dec m r (at to)
+
+  -- a jump to what follows leads to where the items end
+  follows : (to : Label) → is_following following to ≡ true → q ≡ at to
+  follows to h = go following refl to h
+    where
+      go : (o : Option ℕ) → following ≡ o → (to : Label) → is_following o to ≡ true → q ≡ at to
+      go None e to h = absurd (cc)
+      go (Some b) e (label.Stub a) h = absurd (cc)
+      go (Some b) e (label.Place a) h = falls b e ∙ ap (λ c. at (label.Place c)) (sym (eqb-true a b h))
+
+  -- one item more in front
+  behind : (p : ℕ) (i j k : Item) (rest front : List Item) (to : Label) → Trimmed p (i ∷ j ∷ k ∷ rest) → ((r : ℕ) → Trimmed r (j ∷ k ∷ rest) → Leads r front to) → Leads p (i ∷ front) to
+  behind p i j k rest front to h ih =
+      let P : List Item → Type 0 = λ l. InsnsAt dec m p (map (resolved at) l) q in
+      let g = subst P (trimmed-cons following i j k rest) h in
+      let t = ih g.0 g.2 in
+      (t.0, (g.0, g.1, t.1), t.2)
+
+  -- items that end with a jump: those before it stand, and from their end the run comes to the jump's label
+  pub last_jump : (p : ℕ) (i : Item) (front : List Item) (to : Label) → Trimmed p (i ∷ (front ++ item.Jump to ∷ [])) → Leads p (i ∷ front) to
+  last_jump p i [] to h = go (is_following following to) refl h
+    where
+      go : (b : Bool) → is_following following to ≡ b → InsnsAt dec m p (map (resolved at) (if b then i ∷ [] else (i ∷ item.Jump to ∷ []))) q → Leads p (i ∷ []) to
+      go true e h = (h.0, (h.0, h.1, refl), Falls (h.2 ∙ follows to e))
+      go false e h = (h.0, (h.0, h.1, refl), Jumps h.2.0 h.2.1)
+  last_jump p i (j ∷ []) to h = behind p i j (item.Jump to) [] (j ∷ []) to h (λ r g. last_jump r j [] to g)
+  last_jump p i (j ∷ k ∷ front) to h = behind p i j k (front ++ item.Jump to ∷ []) (j ∷ k ∷ front) to h (λ r g. last_jump r j (k ∷ front) to g)
+
+module _ (dec : Decoder) (edges : Edges) (lay : Layout) (place : ℕ → ℕ) (m : Regions) (at : Label → ℕ)
+    (at_place : (b : ℕ) → at (label.Place b) ≡ place b)
+    (at_stub : (b : ℕ) → at (label.Stub b) ≡ lay.stub b) where
+  -- a label of an edge is where the new run goes
+  at_label : (a b : ℕ) → at (to_label edges a b) ≡ dest edges place lay.stub a b
+  at_label a b = go (has_edge edges a b)
+    where
+      go : (v : Bool) → at (if v then label.Place b else label.Stub a) ≡ (if v then place b else lay.stub a)
+      go true = at_place b
+      go false = at_stub a
+
+  -- where the trimmed items of an instruction stand, its fragment stands
+  pub fragment_stands : (a n : ℕ) (x : Insn) (following : Option ℕ) (q : ℕ) → ((b : ℕ) → following ≡ Some b → q ≡ place b) → n < 2 ^ 32 → IsInside lay.code (place a)
+      → InsnsAt dec m (place a) (map (resolved at) (trimmed following (items_of edges a n x))) q → FragmentAt dec edges lay place m a n x
+  fragment_stands a n (insn.Mov w dst src) following q falls low inside h =
+      let l = last_jump dec m at following q (λ b e. falls b e ∙ sym (at_place b)) (place a) (item.Whole (insn.Mov w dst src)) [] (to_label edges a n) h in
+      (l.1.0, l.1.1, subst (Onto dec m l.1.0) (at_label a n) (subst (λ p. Onto dec m p (at (to_label edges a n))) (sym l.1.2) l.2))
+  fragment_stands a n (insn.Jmp b) following q falls low inside h =
+      (h.0, subst (λ t. InsnAt dec m (place a) (insn.Jmp t) h.0) (at_label a b) h.1)
+  fragment_stands a n insn.Syscall following q falls low inside h =
+      let l = last_jump dec m at following q (λ b e. falls b e ∙ sym (at_place b)) (place a) (item.Whole insn.Syscall) (item.Whole (mov_number 1 n) ∷ []) (to_label edges a n) h in
+      let end = l.1.2.0 in
+      (l.1.0, end, low, l.1.1, l.1.2.1, subst (Onto dec m end) (at_label a n) (subst (λ p. Onto dec m p (at (to_label edges a n))) (sym l.1.2.2) l.2))
+  fragment_stands a n insn.Ud2 following q falls low inside h = (h.0, h.1, inside)

@@ -1,0 +1,7 @@
+use Rattle.rz_machine.specs.First.{decode_first}
+use Rattle.rz_machine.proofs.Emitted.{fragments_fit}
+use Rattle.rz_machine.proofs.RewrittenLaws.{place_in_code}
+use Rattle.rz_machine.proofs.law.fragments_fit.Goals as goal
+
+pub returns : goal.returns
+returns c = record { fit = λ at from x kept. fragments_fit decode_first x.loads kept.edges at from kept.nodes; inside = place_in_code decode_first }

@@ -1,0 +1,13 @@
+-- What the headline asks of an original's loads: none both written and executed, all at low addresses, all of bytes.
+use Rattle.std.specs.Prelude.{◌≡◌, ℕ, ◌+◌, ◌<◌, ◌≤◌, true, false, List, length}
+use Rattle.std.specs.List.{AllByRecursion}
+use Rattle.rz_machine.specs.declared.memory.Region.{Region}
+use Rattle.rz_machine.specs.Elf.{Image}
+
+pub record IsPlainRegion (r : Region) : Type 0 where
+  pub fixed : r.perm.write ≡ true → r.perm.execute ≡ false
+  pub low : r.base + length r.bytes ≤ 0x70000000
+  pub bytes : AllByRecursion (λ b. b < 256) r.bytes
+
+abbrev pub IsPlainImage : Image → Type 0
+IsPlainImage x = AllByRecursion IsPlainRegion x.loads
