@@ -1,3 +1,9 @@
+pub mod FragmentLaws
+pub mod FragmentSteps
 pub mod Placed
 pub mod Rank
 pub mod Trimmed
+pub mod FormLaws
+pub mod ReadLaws
+pub mod CauseLaws
+pub mod ExactLaws

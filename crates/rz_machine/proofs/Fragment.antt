@@ -25,7 +25,7 @@ use Rattle.rz_machine.specs.Added.{Layout}
 use Rattle.rz_machine.specs.Keeps.{Same, Edges, AlikeEnds}
 use Rattle.rz_machine.proofs.CodeLaws.{HasCode, step_code}
 use Rattle.rz_machine.proofs.OneForm.{DoneAlike, carry_alike, CalledAlike, call_alike}
-use Rattle.rz_machine.proofs.WholeRuns.{dest, Follows, Stand}
+use Rattle.rz_machine.proofs.Runs.{dest, Follows, Stand}
 use Rattle.rz_machine.proofs.Placed.{InsnAt}
 use Rattle.rz_machine.proofs.Comes.{decodes_to, step_is, jump_is, ud2_is, Comes, stay, one_more, weaker, jump_comes, Onto, onto}
 
@@ -130,7 +130,7 @@ module _ (dec : Decoder) (edges : Edges) (lay : Layout) (place bound : ℕ → �
       let e : step dec t ≡ after_done d' p t = step_is dec wm (place a) x p new t st.new_runs there st.new_code ∙ form p t in
       let f : step dec s ≡ after_done d n s = step_is dec xm a x n old s st.old_runs rip st.old_code ∙ form n s in
       let same : effect x s.cpu.rip s.cpu.regs s.cpu.flags ≡ effect x t.cpu.rip t.cpu.regs t.cpu.flags =
-          any s.cpu.rip t.cpu.rip s.cpu.regs s.cpu.flags ∙ ap₂ (λ r g. effect x t.cpu.rip r g) st.same.regs st.same.flags in
+      any s.cpu.rip t.cpu.rip s.cpu.regs s.cpu.flags ∙ ap₂ (λ r g. effect x t.cpu.rip r g) st.same.regs st.same.flags in
       let P : Effect → Type 0 = λ v. DoneAlike lay.added d (carry v t.mem) in
       let alike : DoneAlike lay.added d d' = subst P same (carry_alike lay.added s.mem t.mem (effect x s.cpu.rip s.cpu.regs s.cpu.flags) clear st.same.mem) in
       let C : Machine → Type 0 = λ u. HasCode wm u.mem in
@@ -186,9 +186,9 @@ module _ (dec : Decoder) (edges : Edges) (lay : Layout) (place bound : ℕ → �
       let e2 : step dec t1 ≡ t2 = step_is dec wm p (mov_number 1 n) q mov t1 st.new_runs refl code1 ∙ mov_is 1 n q t1 low in
       let code2 : HasCode wm t2.mem = code1 in
       let regs : s1.cpu.regs ≡ t2.cpu.regs =
-          ap₂ (λ r f. set (set (set r 0 c.answer) 1 n) 11 (flags_word f)) st.same.regs st.same.flags
-          ∙ ap (λ x. set (set (set t.cpu.regs 0 x) 1 n) 11 (flags_word t.cpu.flags)) alike.answer
-          ∙ sym (rcx_again t.cpu.regs d.answer p (flags_word t.cpu.flags) n) in
+      ap₂ (λ r f. set (set (set r 0 c.answer) 1 n) 11 (flags_word f)) st.same.regs st.same.flags
+      ∙ ap (λ x. set (set (set t.cpu.regs 0 x) 1 n) 11 (flags_word t.cpu.flags)) alike.answer
+      ∙ sym (rcx_again t.cpu.regs d.answer p (flags_word t.cpu.flags) n) in
       let same : Same lay.added s1 t2 = record { regs = regs; flags = st.same.flags; world = world_alike s.cpu.regs t.cpu.regs s.world t.world c d st.same.regs st.same.world alike; mem = alike.mem } in
       let there = To a n in
       let last : Comes dec lay.added s1 t2 0 1 there = onto dec lay.added wm q there ahead s1 t2 st.new_runs refl code2 same in

@@ -24,9 +24,6 @@ word v h = little_number-reads_back 4 v [] h
 pub long : (v : ℕ) → v < 2 ^ 64 → little_number 8 (little_bytes 8 v) ≡ v
 long v h = little_number-reads_back 8 v [] h
 
-pub half : (v : ℕ) → v < 2 ^ 16 → little_number 2 (little_bytes 2 v) ≡ v
-half v h = little_number-reads_back 2 v [] h
-
 -- the program header that was written first
 pub segment_of-segment_bytes : (s : Segment) (rest : List ℕ) → IsEncodable s → segment_of (segment_bytes s ++ rest) ≡ s
 segment_of-segment_bytes s rest h = λ i. record {
@@ -39,9 +36,6 @@ segment_of-segment_bytes s rest h = λ i. record {
   memsz = long s.memsz h.memsz i;
   align = long s.align h.align i;
 }
-
-drop-segment_bytes : (s : Segment) (rest : List ℕ) → drop 56 (segment_bytes s ++ rest) ≡ rest
-drop-segment_bytes s rest = refl
 
 -- all program headers that were written
 pub segments_of-segment_bytes : (segs : List Segment) (rest : List ℕ) → AllByRecursion IsEncodable segs → segments_of (length segs) (flat_map segment_bytes segs ++ rest) ≡ segs

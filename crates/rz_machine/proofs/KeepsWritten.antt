@@ -33,7 +33,7 @@ use Rattle.rz_machine.specs.PlainImage.{IsPlainImage, IsPlainRegion}
 use Rattle.rz_machine.specs.Rewritten.{HasRoom, IsRewritten, fragments_of, place_of, code_of_nodes}
 use Rattle.rz_machine.proofs.CodeLaws.{HasCode}
 use Rattle.rz_machine.proofs.RegLaws.{AreRegs, set_regs}
-use Rattle.rz_machine.proofs.WholeRuns.{Follows, Stand, keeps, paced}
+use Rattle.rz_machine.proofs.Runs.{Follows, Stand, keeps, paced}
 use Rattle.rz_machine.proofs.Placed.{BytesAt, bytes_front, InsnAt, InsnsAt, insn_of_spelling, AllSpelled, items_stand}
 use Rattle.rz_machine.proofs.Comes.{step_is, ud2_is}
 use Rattle.rz_machine.proofs.Fragment.{FragmentAt, fragment_follows}

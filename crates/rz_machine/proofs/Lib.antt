@@ -8,7 +8,7 @@ pub mod StepLaws
 pub mod CodeLaws
 pub mod OneForm
 pub mod RegLaws
-pub mod WholeRuns
+pub mod Runs
 pub mod Placed
 pub mod Comes
 pub mod Fragment

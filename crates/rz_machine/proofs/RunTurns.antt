@@ -4,7 +4,7 @@ use Rattle.rz_machine.specs.declared.machine.End.{End}
 use Rattle.rz_machine.specs.declared.machine.Machine.{Machine}
 use Rattle.rz_machine.specs.Insn.{Decoder}
 use Rattle.rz_machine.specs.State.{step, after}
-use Rattle.rz_machine.proofs.WholeRuns.{stays, after-+, after-suc}
+use Rattle.rz_machine.proofs.Runs.{stays, after-+, after-suc}
 
 -- one step more, as a loop counts
 pub after-next : (dec : Decoder) (n : ℕ) (s : Machine) → after dec (n + 1) s ≡ step dec (after dec n s)

@@ -63,8 +63,8 @@ module _ (code : List ℕ) (some : 1 ≤ length code) (few : length code ≤ 655
   nodes_few : length kept.nodes ≤ 65536
   nodes_few =
       let inside : AllByRecursion (λ b. (thin_base ≤ b) × (b < thin_base + length code)) kept.nodes =
-          all_members (λ b. (thin_base ≤ b) × (b < thin_base + length code)) kept.nodes
-          (λ b e. let n = can.nodes b e in executed_in_code code b (stands (code_image code) plain b n.insn n.len n.spelled).first) in
+      all_members (λ b. (thin_base ≤ b) × (b < thin_base + length code)) kept.nodes
+      (λ b e. let n = can.nodes b e in executed_in_code code b (stands (code_image code) plain b n.insn n.len n.spelled).first) in
       omega (arith, few_ascending thin_base (thin_base + length code) kept.nodes can.ascending inside)
 
   nodes_some : 1 ≤ length kept.nodes

@@ -86,20 +86,21 @@ thin_headers code h k =
       entered = thin_entered (length code) h;
     }
 
--- the load of the code in a written file: a page further on, and not executable
-abbrev pub kept_segment : ℕ → Segment
-kept_segment n =
-    record { kind = 1; flags = 4; offset = 8192; vaddr = thin_base; paddr = thin_base; filesz = n; memsz = n; align = 4096 }
+thin_load : (n : ℕ) → 1 ≤ n → n ≤ 65536 → is_load (thin_segment n) ≡ true
+thin_load n h k = is_load-good (4096 + n) (thin_segment n) (thin_load_good n (4096 + n) h k (omega arith))
 
 thin_moved : (code : List ℕ) → 1 ≤ length code → length code ≤ 65536 → kept_segments (thin_file code) ≡ moved (thin_segment (length code)) ∷ []
-thin_moved code h k =
-    let l : is_load (thin_segment (length code)) ≡ true = is_load-good (4096 + length code) (thin_segment (length code)) (thin_load_good (length code) (4096 + length code) h k (omega arith)) in
-    rw (thin_segments code k, l, l) refl
+thin_moved code h k = let l = thin_load (length code) h k in rw (thin_segments code k, l, l) refl
+
+-- the load of the code in a written file: a page further on, and not executable
+abbrev pub kept_segment : ℕ → Segment
+kept_segment n = record { kind = 1; flags = 4; offset = 8192; vaddr = thin_base; paddr = thin_base; filesz = n; memsz = n; align = 4096 }
+
+moved_thin : (n : ℕ) → 1 ≤ n → n ≤ 65536 → moved (thin_segment n) ≡ kept_segment n
+moved_thin n h k = rw (thin_load n h k) refl
 
 pub thin_kept : (code : List ℕ) → 1 ≤ length code → length code ≤ 65536 → kept_segments (thin_file code) ≡ kept_segment (length code) ∷ []
-thin_kept code h k =
-    let l : is_load (thin_segment (length code)) ≡ true = is_load-good (4096 + length code) (thin_segment (length code)) (thin_load_good (length code) (4096 + length code) h k (omega arith)) in
-    rw (thin_segments code k, l, l) refl
+thin_kept code h k = thin_moved code h k ∙ ap (λ (s : Segment). s ∷ []) (moved_thin (length code) h k)
 
 pub thin_accepted : (code : List ℕ) → 1 ≤ length code → length code ≤ 65536 → fault_of (thin_file code) ≡ None
 thin_accepted code h k = fault_of_none (thin_headers code h k)

@@ -12,7 +12,7 @@ use Rattle.rz_machine.specs.First.{mov_number, Spells, spells_mov, spells_jmp, s
 use Rattle.rz_machine.specs.Added.{Layout}
 use Rattle.rz_machine.specs.Keeps.{Edges, has_edge}
 use Rattle.rz_machine.specs.Fragments.{to_label, items_of, is_following, trimmed, item_len, items_len, resolved}
-use Rattle.rz_machine.proofs.WholeRuns.{dest}
+use Rattle.rz_machine.proofs.Runs.{dest}
 use Rattle.rz_machine.proofs.Placed.{InsnAt, InsnsAt, AllSpelled}
 use Rattle.rz_machine.proofs.Comes.{Onto, Falls, Jumps}
 use Rattle.rz_machine.proofs.Fragment.{FragmentAt}

@@ -144,8 +144,8 @@ length-written_file code p entry h k =
     ap length (written_paged code p entry h k) ∙ l
 
 -- the program headers of the written file
-scratch_good : (n len : ℕ) (p : Parts) (entry : ℕ) → PartsFit p entry → IsGoodLoad len (added_segment 6 0 p.base 0 scratch_size)
-scratch_good n len p entry fit =
+scratch_good : (len : ℕ) (p : Parts) (entry : ℕ) → PartsFit p entry → IsGoodLoad len (added_segment 6 0 p.base 0 scratch_size)
+scratch_good len p entry fit =
     let a = fit.base_low in
     let b = fit.base_paged in
     let c = fit.ends in
@@ -199,7 +199,7 @@ loads_good_at n len p entry h k fit long =
     let of0 : tables_at n % 4096 ≡ 0 = omega arith in
     let of1 : (tables_at n + t) % 4096 ≡ 0 = omega arith in
     let of2 : (tables_at n + t + c) % 4096 ≡ 0 = omega arith in (
-      scratch_good n len p entry fit,
+      scratch_good len p entry fit,
       tt,
       (
         part_good len 4 (tables_at n) (p.base + 4096) t (omega arith) (omega arith) t0 (omega arith) of0 at0 (omega arith) (omega arith),

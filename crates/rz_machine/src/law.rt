@@ -12,26 +12,22 @@ ghost use Rattle.rz_machine.specs.Rewritten.{RewrittenKeeps, RewrittenPaced, Fra
 pub fn fragments_keep()
     ensures keeps { RewrittenKeeps decode_first }
     ensures paced { RewrittenPaced decode_first 3 }
-{
-}
+{}
 
 /// The fragments fit the code part, and those of the kept nodes lie in it.
 pub fn fragments_fit()
     ensures fit { FragmentsFit decode_first }
     ensures inside { PlacesInCode decode_first }
-{
-}
+{}
 
 /// The parts that are added to a thin file have room below its code, and the file that is written with them keeps
 /// its runs and is inert.
 pub fn thin_files_are_kept()
     ensures room { ThinFilesHaveRoom decode_first }
     ensures kept { ThinFilesKept decode_first }
-{
-}
+{}
 
 /// What is loaded of an accepted file is plain: no region is both written and executed, and all lie at low addresses.
 pub fn accepted_files_are_plain()
     ensures { (x : List ℕ) → AllByRecursion (λ b. b < 256) x → fault_of x ≡ None → IsPlainImage (image_of x) }
-{
-}
+{}
