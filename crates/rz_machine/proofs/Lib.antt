@@ -35,3 +35,4 @@ pub mod ThinKept
 pub mod PlainAccepted
 pub mod ThinLoads
 pub mod GreetingRuns
+pub mod ThinTraces

@@ -60,7 +60,7 @@ with_run_turn dec i s kept at h =
     let more : begun dec (suc i) s ≡ list ++ at ∷ [] = begun_suc dec i s ∙ ap (λ l. list ++ l) h in
     let nodes : with_nodes kept.nodes (list ++ at ∷ []) ≡ insert_key nat_cmp (with_nodes kept.nodes list) at = fold-append (insert_key nat_cmp) kept.nodes list (at ∷ []) in
     let edges : with_edges kept.edges (neighbours (list ++ at ∷ [])) ≡ with_edges (with_edges kept.edges (neighbours list)) (edge_from (last_of list) at) =
-        ap (with_edges kept.edges) (neighbours-push list at) ∙ fold-append (insert_key pair_cmp) kept.edges (neighbours list) (edge_from (last_of list) at) in
+    ap (with_edges kept.edges) (neighbours-push list at) ∙ fold-append (insert_key pair_cmp) kept.edges (neighbours list) (edge_from (last_of list) at) in
     let P : List ℕ → Record = λ l. record { nodes = with_nodes kept.nodes l; edges = with_edges kept.edges (neighbours l) } in
     ap₂ (λ (ns : List ℕ) (es : List (ℕ × ℕ)). let r : Record = record { nodes = ns; edges = es } in r) (sym nodes) (sym edges) ∙ ap P (sym more)
 

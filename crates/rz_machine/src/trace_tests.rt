@@ -14,10 +14,11 @@ use std::test::Fail;
 
 // The headers of a thin file, with no sizes.
 const HEADERS: [u8; 120] = [
-    0x7f, b'E', b'L', b'F', 2, 1, 1, 0, 0, 0, 0, 0, 0, 0, 0, 0, 2, 0, 62, 0, 1, 0, 0, 0, 0, 0x10, 0x40, 0,
-    0, 0, 0, 0, 64, 0, 0, 0, 0, 0, 0, 0, 0, 0, 0, 0, 0, 0, 0, 0, 0, 0, 0, 0, 64, 0, 56, 0, 1, 0, 0, 0, 0, 0,
-    0, 0, 1, 0, 0, 0, 5, 0, 0, 0, 0, 0x10, 0, 0, 0, 0, 0, 0, 0, 0x10, 0x40, 0, 0, 0, 0, 0, 0, 0x10, 0x40, 0,
-    0, 0, 0, 0, 0, 0, 0, 0, 0, 0, 0, 0, 0, 0, 0, 0, 0, 0, 0, 0, 0, 0x10, 0, 0, 0, 0, 0, 0,
+    0x7f, b'E', b'L', b'F', 2, 1, 1, 0, 0, 0, 0, 0, 0, 0, 0, 0, 2, 0, 62, 0, 1, 0, 0, 0, 0, 0x10,
+    0x40, 0, 0, 0, 0, 0, 64, 0, 0, 0, 0, 0, 0, 0, 0, 0, 0, 0, 0, 0, 0, 0, 0, 0, 0, 0, 64, 0, 56, 0,
+    1, 0, 0, 0, 0, 0, 0, 0, 1, 0, 0, 0, 5, 0, 0, 0, 0, 0x10, 0, 0, 0, 0, 0, 0, 0, 0x10, 0x40, 0, 0,
+    0, 0, 0, 0, 0x10, 0x40, 0, 0, 0, 0, 0, 0, 0, 0, 0, 0, 0, 0, 0, 0, 0, 0, 0, 0, 0, 0, 0, 0, 0x10,
+    0, 0, 0, 0, 0, 0,
 ];
 
 // The thin file of a code.
@@ -37,19 +38,24 @@ fn program(alloc: Global, code: &[u8]) -> Result<Elf, ElfError>
 fn traces_a_greeting(rt: HostRuntime) -> Result<(), Fail> {
     let alloc = rt.alloc();
     let code = [
-        0xb8, 1, 0, 0, 0, 0xbf, 1, 0, 0, 0, 0xbe, 0x22, 0x10, 0x40, 0, 0xba, 3, 0, 0, 0, 0x0f, 0x05, 0xbf, 0, 0,
-        0, 0, 0xb8, 0x3c, 0, 0, 0, 0x0f, 0x05, b'h', b'i', b'\n',
+        0xb8, 1, 0, 0, 0, 0xbf, 1, 0, 0, 0, 0xbe, 0x22, 0x10, 0x40, 0, 0xba, 3, 0, 0, 0, 0x0f,
+        0x05, 0xbf, 0, 0, 0, 0, 0xb8, 0x3c, 0, 0, 0, 0x0f, 0x05, b'h', b'i', b'\n',
     ];
     let elf = program(alloc, &code)?;
     let mut rec = Record::new(alloc);
     trace::<First>(alloc, &elf, &Input::empty(alloc), 1_000_000_000, &mut rec)?;
     let nodes = rec.nodes.to_words(alloc)?;
-    let begun = [0x40_1000, 0x40_1005, 0x40_100a, 0x40_100f, 0x40_1014, 0x40_1016, 0x40_101b, 0x40_1020];
+    let begun = [
+        0x40_1000, 0x40_1005, 0x40_100a, 0x40_100f, 0x40_1014, 0x40_1016, 0x40_101b, 0x40_1020,
+    ];
     assert_eq!(rt; nodes.as_slice(), begun.as_slice());
     assert_eq!(rt; rec.nodes.len(), 8);
     assert_eq!(rt; rec.edges.len(), 7);
     let edges = rec.edges.to_pairs(alloc)?;
-    assert_eq!(rt; edges.as_slice().last().copied(), Some((0x40_101b, 0x40_1020)));
+    assert_eq!(rt;
+        edges.as_slice().last().copied(),
+        Some((0x40_101b, 0x40_1020))
+    );
     Ok(())
 }
 
@@ -101,6 +107,9 @@ fn sets_ascend(rt: HostRuntime) -> Result<(), Fail> {
     assert!(rt; !nodes.insert(3)?);
     assert!(rt; edges.insert((3, 9))?);
     assert_eq!(rt; nodes.to_words(alloc)?.as_slice(), [3, 5, 7].as_slice());
-    assert_eq!(rt; edges.to_pairs(alloc)?.as_slice(), [(3, 9), (9, 3), (9, 5), (9, 7)].as_slice());
+    assert_eq!(rt;
+        edges.to_pairs(alloc)?.as_slice(),
+        [(3, 9), (9, 3), (9, 5), (9, 7)].as_slice()
+    );
     Ok(())
 }

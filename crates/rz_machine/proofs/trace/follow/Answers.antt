@@ -24,9 +24,9 @@ returns-in-Some-clause-err g c =
 pub returns-in_err-add-clause-err : goal.returns-in_err-add-clause-err
 returns-in_err-add-clause-err g c =
     let part = ⊎_elim
-      (λ same. Followed-part _ _ _ _ _ _ _ c.loop.invariant _ _ (omega arith) same c.in_err-add.ensures.edges)
-      (λ one. Followed-node _ _ _ _ _ _ _ c.loop.invariant _ (sym c.is_some.ensures ∙ c.if-is_some.false) c.in_ok-step.ensures.ok c.in_default.ensures _ _ c.loop-test.true one c.in_err-add.ensures.edges)
-      c.in_err-add.ensures.nodes in
+    (λ same. Followed-part _ _ _ _ _ _ _ c.loop.invariant _ _ (omega arith) same c.in_err-add.ensures.edges)
+    (λ one. Followed-node _ _ _ _ _ _ _ c.loop.invariant _ (sym c.is_some.ensures ∙ c.if-is_some.false) c.in_ok-step.ensures.ok c.in_default.ensures _ _ c.loop-test.true one c.in_err-add.ensures.edges)
+    c.in_err-add.ensures.nodes in
     no_memory _ _ _ _ _ _ c.from_residual-in_err-add.ensures.1 part
 
 pub loop-preserved : goal.loop-preserved
