@@ -23,9 +23,9 @@ module _ (dec : Decoder) (m : Regions) (edges : Edges) (nodes : List ℕ) (i : �
       let rest = drop (i + 1) nodes in
       let split : drop i nodes ≡ a ∷ rest = rw add-one (drop-cons nodes i 0 h) in
       let its : f.items ≡ trimmed (first_node rest) (items_for edges a (spelled_at dec m a)) =
-          items ∙ ap (λ d. trimmed following (items_for edges a d)) decoded ∙ ap (λ o. trimmed o (items_for edges a (spelled_at dec m a))) next in
+      items ∙ ap (λ d. trimmed following (items_for edges a d)) decoded ∙ ap (λ o. trimmed o (items_for edges a (spelled_at dec m a))) next in
       let whole : f ∷ fragments dec m edges rest ≡ fragments dec m edges (a ∷ rest) =
-          ap₂ (λ x y. let g : Fragment = record { at = x; items = y } in g ∷ fragments dec m edges rest) at its in
+      ap₂ (λ x y. let g : Fragment = record { at = x; items = y } in g ∷ fragments dec m edges rest) at its in
       ap (λ l. l ++ fragments dec m edges rest) pushed ∙ append_assoc out (f ∷ []) (fragments dec m edges rest) ∙ ap (λ l. out ++ l) whole ∙ ap (λ l. out ++ fragments dec m edges l) (sym split)
 
   -- at the end all fragments are there

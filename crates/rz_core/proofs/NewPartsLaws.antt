@@ -131,7 +131,7 @@ module _ (x : Image) (kept : Record) (plain : IsPlainImage x) (can : IsRewritabl
     pub parts_are : parts ≡ new_parts_of decode_first x kept
     parts_are =
         let front : parts ≡ record { base = a.scratch; tables = zeros (a.code - a.tables); code = parts.code; stubs = parts.stubs } =
-            ap₂ (λ b t. let q : Parts = record { base = b; tables = t; code = parts.code; stubs = parts.stubs } in q) base_is tables_hold in
+        ap₂ (λ b t. let q : Parts = record { base = b; tables = t; code = parts.code; stubs = parts.stubs } in q) base_is tables_hold in
         front ∙ ap₂ (λ k s. let q : Parts = record { base = a.scratch; tables = zeros (a.code - a.tables); code = k; stubs = s } in q) code_holds stubs_hold
 
     pub begins_is : entry ≡ place_of decode_first x kept x.entry

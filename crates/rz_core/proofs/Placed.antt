@@ -19,6 +19,7 @@ place_beside (f ∷ rest) from a = first (f.at == a) (place_beside rest (from + 
     at_rank : (b : Bool) (ps : List ℕ) (k : ℕ) → get_or (from ∷ ps) (if b then 0 else 1 + k) 0 ≡ (if b then from else get_or ps k 0)
     at_rank true ps k = refl
     at_rank false ps k = grind arith
+
     first : (b : Bool) → get_or (places_from (from + items_len f.items) rest) (index_of (nodes_of rest) a) 0 ≡ place_in rest (from + items_len f.items) a
         → get_or (from ∷ places_from (from + items_len f.items) rest) (if b then 0 else 1 + index_of (nodes_of rest) a) 0 ≡ (if b then from else place_in rest (from + items_len f.items) a)
     first b later = at_rank b (places_from (from + items_len f.items) rest) (index_of (nodes_of rest) a) ∙ ap (λ p. if b then from else p) later

@@ -45,7 +45,7 @@ module _ (elf : Elf) (kept : Record) (thin : IsThin elf.bytes) (bytes : AreBytes
         let room_image = (thin_room elf.bytes kept thin bytes can_image).2 in
         let ends = (lie decode_first (image_of elf.bytes) kept room_image parts entry are_image.parts_added).stop in
         let at : (added decode_first (image_of elf.bytes) kept).stop ≡ thin_base =
-            ap (λ y. (added decode_first (image_of y) kept).stop) thin.file ∙ ap (λ (b : Added). b.stop) (added-thin thin.code kept thin.some thin.few) in
+        ap (λ y. (added decode_first (image_of y) kept).stop) thin.file ∙ ap (λ (b : Added). b.stop) (added-thin thin.code kept thin.some thin.few) in
         omega (arith, ends, at)
 
     -- the new file keeps the runs, and is inert

@@ -58,12 +58,7 @@ fn emit_items(
 }
 
 // Appends the spelling of an item at an address.
-fn emit_item(
-    item: &Item,
-    layout: &Layout,
-    here: u64,
-    out: &mut Bytes,
-) -> Result<(), OutOfMemory>
+fn emit_item(item: &Item, layout: &Layout, here: u64, out: &mut Bytes) -> Result<(), OutOfMemory>
     requires low { here + len_of_item item.now < 2 ^ 31 }
     requires spellable { IsSpellable item.now }
     ensures { OnOk result (out.new ≡ out.old ++ spelling (resolved_item (address_in layout.now) item.now) here) }

@@ -136,7 +136,12 @@ fn sequence(
         Insn::Syscall => {
             let saved_next = Item::Whole(mov_number(1, next));
             let to = label(edges, at, next);
-            going_on(alloc, &[Item::Whole(Insn::Syscall), saved_next], to, following)
+            going_on(
+                alloc,
+                &[Item::Whole(Insn::Syscall), saved_next],
+                to,
+                following,
+            )
         }
         Insn::Ud2 => Items::from_slice(alloc, &[Item::Whole(Insn::Ud2)]),
         plain => {

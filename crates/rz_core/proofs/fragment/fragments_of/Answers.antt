@@ -31,7 +31,7 @@ returns c =
     let nodes = c.args.nodes.now in
     let value : c.loop-i.items.items ≡ fragments decode_first m edges nodes = all_fragments decode_first m edges nodes c.loop-i.i c.loop-i.items.items c.loop-i-test.false c.loop-i.invariant.value in
     let each : All (λ a. IsDecodedSpellable (spelled_at decode_first m a)) nodes =
-        subst (λ l. All (λ a. IsDecodedSpellable (spelled_at decode_first m a)) l) (take_all c.loop-i.i nodes c.loop-i-test.false) c.loop-i.invariant.spellable in
+    subst (λ l. All (λ a. IsDecodedSpellable (spelled_at decode_first m a)) l) (take_all c.loop-i.i nodes c.loop-i-test.false) c.loop-i.invariant.spellable in
     record {
       value = value;
       spellable = All-same IsFragmentSpellable c.loop-i.items.items (fragments decode_first m edges nodes) value (fragments_spellable m edges nodes c.requires.low each);

@@ -10,7 +10,7 @@ use Rattle.rz_core.proofs.rewrite.emit_parts.Goals as goal
 pub filled-requires-2 : goal.filled-requires-2
 filled-requires-2 c =
     let long : length c.in_ok-code.code ≡ total_len c.args.fragments.now =
-        ap length c.in_ok-code.ensures ∙ length-fragments_bytes (address_in c.args.layout.now) c.args.range.now.code c.args.fragments.now in
+    ap length c.in_ok-code.ensures ∙ length-fragments_bytes (address_in c.args.layout.now) c.args.range.now.code c.args.fragments.now in
     omega (arith, long, c.requires.code)
 
 pub filled-requires-3 : goal.filled-requires-3

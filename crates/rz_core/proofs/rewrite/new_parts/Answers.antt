@@ -19,7 +19,7 @@ parts_below-range-requires-clause-low c =
     let can = c.requires.rewritable in
     let room = c.requires.room in
     let stop : c.page_floor.result ≡ page_floor (lowest x.loads) =
-        c.page_floor.ensures ∙ ap page_floor (sym (c.lowest_load-lowest.ensures c.args.elf.now.bytes) ∙ ap (λ (ls : List Load). lowest (map (loaded_region c.args.elf.now.bytes) ls)) c.as_slice.ensures) in
+    c.page_floor.ensures ∙ ap page_floor (sym (c.lowest_load-lowest.ensures c.args.elf.now.bytes) ∙ ap (λ (ls : List Load). lowest (map (loaded_region c.args.elf.now.bytes) ls)) c.as_slice.ensures) in
     subst (λ s. s < 2 ^ 31) (sym stop) (stop_is_low x kept plain can room)
 
 pub file_fragments-requires-clause-low : goal.file_fragments-requires-clause-low
@@ -41,13 +41,13 @@ lay_out-requires-clause-ascending c =
     let room = c.requires.room in
     let nodes : c.as_slice-nodes.result.now ≡ kept.nodes = c.as_slice-nodes.ensures.value ∙ c.in_ok-words.ensures.same in
     let stop : c.page_floor.result ≡ page_floor (lowest x.loads) =
-        c.page_floor.ensures ∙ ap page_floor (sym (c.lowest_load-lowest.ensures c.args.elf.now.bytes) ∙ ap (λ (ls : List Load). lowest (map (loaded_region c.args.elf.now.bytes) ls)) c.as_slice.ensures) in
+    c.page_floor.ensures ∙ ap page_floor (sym (c.lowest_load-lowest.ensures c.args.elf.now.bytes) ∙ ap (λ (ls : List Load). lowest (map (loaded_region c.args.elf.now.bytes) ls)) c.as_slice.ensures) in
     let range : range_of c.parts_below-range.result ≡ added decode_first x kept =
-        c.parts_below-range.ensures
-        ∙ ap₂ (λ n s. parts_below (tables_size 0 0) (code_size n 0 0) (stubs_size n) s) (ap length nodes) stop
-        ∙ range_is x kept plain can room in
+    c.parts_below-range.ensures
+    ∙ ap₂ (λ n s. parts_below (tables_size 0 0) (code_size n 0 0) (stubs_size n) s) (ap length nodes) stop
+    ∙ range_is x kept plain can room in
     let frags : c.as_slice-list.result.now ≡ fragments_of decode_first x kept =
-        c.as_slice-list.ensures ∙ c.in_ok-fragments.ensures.value ∙ ap (λ l. fragments decode_first x.loads kept.edges l) nodes in
+    c.as_slice-list.ensures ∙ c.in_ok-fragments.ensures.value ∙ ap (λ l. fragments decode_first x.loads kept.edges l) nodes in
     let fit = fits x kept plain can room c.as_slice-list.result.now c.parts_below-range.result frags range in
     fit.ascending
 
@@ -60,13 +60,13 @@ lay_out-requires-clause-low_code c =
     let room = c.requires.room in
     let nodes : c.as_slice-nodes.result.now ≡ kept.nodes = c.as_slice-nodes.ensures.value ∙ c.in_ok-words.ensures.same in
     let stop : c.page_floor.result ≡ page_floor (lowest x.loads) =
-        c.page_floor.ensures ∙ ap page_floor (sym (c.lowest_load-lowest.ensures c.args.elf.now.bytes) ∙ ap (λ (ls : List Load). lowest (map (loaded_region c.args.elf.now.bytes) ls)) c.as_slice.ensures) in
+    c.page_floor.ensures ∙ ap page_floor (sym (c.lowest_load-lowest.ensures c.args.elf.now.bytes) ∙ ap (λ (ls : List Load). lowest (map (loaded_region c.args.elf.now.bytes) ls)) c.as_slice.ensures) in
     let range : range_of c.parts_below-range.result ≡ added decode_first x kept =
-        c.parts_below-range.ensures
-        ∙ ap₂ (λ n s. parts_below (tables_size 0 0) (code_size n 0 0) (stubs_size n) s) (ap length nodes) stop
-        ∙ range_is x kept plain can room in
+    c.parts_below-range.ensures
+    ∙ ap₂ (λ n s. parts_below (tables_size 0 0) (code_size n 0 0) (stubs_size n) s) (ap length nodes) stop
+    ∙ range_is x kept plain can room in
     let frags : c.as_slice-list.result.now ≡ fragments_of decode_first x kept =
-        c.as_slice-list.ensures ∙ c.in_ok-fragments.ensures.value ∙ ap (λ l. fragments decode_first x.loads kept.edges l) nodes in
+    c.as_slice-list.ensures ∙ c.in_ok-fragments.ensures.value ∙ ap (λ l. fragments decode_first x.loads kept.edges l) nodes in
     let fit = fits x kept plain can room c.as_slice-list.result.now c.parts_below-range.result frags range in
     omega (arith, fit.code, fit.stubs, fit.low)
 
@@ -79,13 +79,13 @@ lay_out-requires-clause-low_stubs c =
     let room = c.requires.room in
     let nodes : c.as_slice-nodes.result.now ≡ kept.nodes = c.as_slice-nodes.ensures.value ∙ c.in_ok-words.ensures.same in
     let stop : c.page_floor.result ≡ page_floor (lowest x.loads) =
-        c.page_floor.ensures ∙ ap page_floor (sym (c.lowest_load-lowest.ensures c.args.elf.now.bytes) ∙ ap (λ (ls : List Load). lowest (map (loaded_region c.args.elf.now.bytes) ls)) c.as_slice.ensures) in
+    c.page_floor.ensures ∙ ap page_floor (sym (c.lowest_load-lowest.ensures c.args.elf.now.bytes) ∙ ap (λ (ls : List Load). lowest (map (loaded_region c.args.elf.now.bytes) ls)) c.as_slice.ensures) in
     let range : range_of c.parts_below-range.result ≡ added decode_first x kept =
-        c.parts_below-range.ensures
-        ∙ ap₂ (λ n s. parts_below (tables_size 0 0) (code_size n 0 0) (stubs_size n) s) (ap length nodes) stop
-        ∙ range_is x kept plain can room in
+    c.parts_below-range.ensures
+    ∙ ap₂ (λ n s. parts_below (tables_size 0 0) (code_size n 0 0) (stubs_size n) s) (ap length nodes) stop
+    ∙ range_is x kept plain can room in
     let frags : c.as_slice-list.result.now ≡ fragments_of decode_first x kept =
-        c.as_slice-list.ensures ∙ c.in_ok-fragments.ensures.value ∙ ap (λ l. fragments decode_first x.loads kept.edges l) nodes in
+    c.as_slice-list.ensures ∙ c.in_ok-fragments.ensures.value ∙ ap (λ l. fragments decode_first x.loads kept.edges l) nodes in
     let fit = fits x kept plain can room c.as_slice-list.result.now c.parts_below-range.result frags range in
     omega (arith, fit.stubs, fit.low)
 
@@ -98,13 +98,13 @@ emit_parts-requires-clause-code c =
     let room = c.requires.room in
     let nodes : c.as_slice-nodes.result.now ≡ kept.nodes = c.as_slice-nodes.ensures.value ∙ c.in_ok-words.ensures.same in
     let stop : c.page_floor.result ≡ page_floor (lowest x.loads) =
-        c.page_floor.ensures ∙ ap page_floor (sym (c.lowest_load-lowest.ensures c.args.elf.now.bytes) ∙ ap (λ (ls : List Load). lowest (map (loaded_region c.args.elf.now.bytes) ls)) c.as_slice.ensures) in
+    c.page_floor.ensures ∙ ap page_floor (sym (c.lowest_load-lowest.ensures c.args.elf.now.bytes) ∙ ap (λ (ls : List Load). lowest (map (loaded_region c.args.elf.now.bytes) ls)) c.as_slice.ensures) in
     let range : range_of c.parts_below-range.result ≡ added decode_first x kept =
-        c.parts_below-range.ensures
-        ∙ ap₂ (λ n s. parts_below (tables_size 0 0) (code_size n 0 0) (stubs_size n) s) (ap length nodes) stop
-        ∙ range_is x kept plain can room in
+    c.parts_below-range.ensures
+    ∙ ap₂ (λ n s. parts_below (tables_size 0 0) (code_size n 0 0) (stubs_size n) s) (ap length nodes) stop
+    ∙ range_is x kept plain can room in
     let frags : c.as_slice-list.result.now ≡ fragments_of decode_first x kept =
-        c.as_slice-list.ensures ∙ c.in_ok-fragments.ensures.value ∙ ap (λ l. fragments decode_first x.loads kept.edges l) nodes in
+    c.as_slice-list.ensures ∙ c.in_ok-fragments.ensures.value ∙ ap (λ l. fragments decode_first x.loads kept.edges l) nodes in
     let fit = fits x kept plain can room c.as_slice-list.result.now c.parts_below-range.result frags range in
     fit.code
 
@@ -117,13 +117,13 @@ emit_parts-requires-clause-low c =
     let room = c.requires.room in
     let nodes : c.as_slice-nodes.result.now ≡ kept.nodes = c.as_slice-nodes.ensures.value ∙ c.in_ok-words.ensures.same in
     let stop : c.page_floor.result ≡ page_floor (lowest x.loads) =
-        c.page_floor.ensures ∙ ap page_floor (sym (c.lowest_load-lowest.ensures c.args.elf.now.bytes) ∙ ap (λ (ls : List Load). lowest (map (loaded_region c.args.elf.now.bytes) ls)) c.as_slice.ensures) in
+    c.page_floor.ensures ∙ ap page_floor (sym (c.lowest_load-lowest.ensures c.args.elf.now.bytes) ∙ ap (λ (ls : List Load). lowest (map (loaded_region c.args.elf.now.bytes) ls)) c.as_slice.ensures) in
     let range : range_of c.parts_below-range.result ≡ added decode_first x kept =
-        c.parts_below-range.ensures
-        ∙ ap₂ (λ n s. parts_below (tables_size 0 0) (code_size n 0 0) (stubs_size n) s) (ap length nodes) stop
-        ∙ range_is x kept plain can room in
+    c.parts_below-range.ensures
+    ∙ ap₂ (λ n s. parts_below (tables_size 0 0) (code_size n 0 0) (stubs_size n) s) (ap length nodes) stop
+    ∙ range_is x kept plain can room in
     let frags : c.as_slice-list.result.now ≡ fragments_of decode_first x kept =
-        c.as_slice-list.ensures ∙ c.in_ok-fragments.ensures.value ∙ ap (λ l. fragments decode_first x.loads kept.edges l) nodes in
+    c.as_slice-list.ensures ∙ c.in_ok-fragments.ensures.value ∙ ap (λ l. fragments decode_first x.loads kept.edges l) nodes in
     let fit = fits x kept plain can room c.as_slice-list.result.now c.parts_below-range.result frags range in
     fit.low
 
@@ -136,28 +136,28 @@ returns c =
     let room = c.requires.room in
     let nodes : c.as_slice-nodes.result.now ≡ kept.nodes = c.as_slice-nodes.ensures.value ∙ c.in_ok-words.ensures.same in
     let stop : c.page_floor.result ≡ page_floor (lowest x.loads) =
-        c.page_floor.ensures ∙ ap page_floor (sym (c.lowest_load-lowest.ensures c.args.elf.now.bytes) ∙ ap (λ (ls : List Load). lowest (map (loaded_region c.args.elf.now.bytes) ls)) c.as_slice.ensures) in
+    c.page_floor.ensures ∙ ap page_floor (sym (c.lowest_load-lowest.ensures c.args.elf.now.bytes) ∙ ap (λ (ls : List Load). lowest (map (loaded_region c.args.elf.now.bytes) ls)) c.as_slice.ensures) in
     let range : range_of c.parts_below-range.result ≡ added decode_first x kept =
-        c.parts_below-range.ensures
-        ∙ ap₂ (λ n s. parts_below (tables_size 0 0) (code_size n 0 0) (stubs_size n) s) (ap length nodes) stop
-        ∙ range_is x kept plain can room in
+    c.parts_below-range.ensures
+    ∙ ap₂ (λ n s. parts_below (tables_size 0 0) (code_size n 0 0) (stubs_size n) s) (ap length nodes) stop
+    ∙ range_is x kept plain can room in
     let frags : c.as_slice-list.result.now ≡ fragments_of decode_first x kept =
-        c.as_slice-list.ensures ∙ c.in_ok-fragments.ensures.value ∙ ap (λ l. fragments decode_first x.loads kept.edges l) nodes in
+    c.as_slice-list.ensures ∙ c.in_ok-fragments.ensures.value ∙ ap (λ l. fragments decode_first x.loads kept.edges l) nodes in
     let p = c.in_ok-layout.layout in
     let parts = c.in_ok-parts.parts in
     let entry = c.address-entry.result in
     let are : AreEmitted x kept plain can room c.as_slice-list.result.now c.as_slice-nodes.result.now c.parts_below-range.result p parts entry =
-        record {
-          frags_are = frags;
-          nodes_are = nodes;
-          range_as = range;
-          placing = c.in_ok-layout.ensures;
-          base = c.in_ok-parts.ensures.base;
-          tables = c.in_ok-parts.ensures.tables;
-          code = c.in_ok-parts.ensures.code;
-          stubs = c.in_ok-parts.ensures.stubs;
-          begins = c.address-entry.ensures.value;
-        } in
+    record {
+      frags_are = frags;
+      nodes_are = nodes;
+      range_as = range;
+      placing = c.in_ok-layout.ensures;
+      base = c.in_ok-parts.ensures.base;
+      tables = c.in_ok-parts.ensures.tables;
+      code = c.in_ok-parts.ensures.code;
+      stubs = c.in_ok-parts.ensures.stubs;
+      begins = c.address-entry.ensures.value;
+    } in
     record {
       parts = parts_are x kept plain can room c.as_slice-list.result.now c.as_slice-nodes.result.now c.parts_below-range.result p parts entry are;
       entry = begins_is x kept plain can room c.as_slice-list.result.now c.as_slice-nodes.result.now c.parts_below-range.result p parts entry are;
