@@ -1,10 +1,10 @@
 -- Cells of lists of regions, and what is fetched from them.
-use Rattle.std.proofs.Common.{◌≡◌, ◌≢◌, ℕ, zero, suc, ◌+◌, ◌-◌, ◌<◌, ◌≤◌, ◌⊎◌, inl, inr, Bool, true, false, ◌&&◌, if◌then◌else◌, nat_lt, nat_le, List, [], ◌∷◌, ◌++◌, length, get_or, Option, Some, None, refl, sym, ap, ap₂, ◌∙◌, subst, arith, le-leb, lt-ltb, le-ltb, leb-true, ltb-true}
+use Rattle.std.proofs.Common.{◌≡◌, ℕ, zero, suc, ◌+◌, ◌-◌, ◌<◌, ◌≤◌, ◌⊎◌, inl, inr, Bool, true, false, ◌&&◌, if◌then◌else◌, nat_lt, nat_le, List, [], ◌∷◌, length, get_or, Some, None, refl, ap, ap₂, ◌∙◌, arith, le-leb, lt-ltb, le-ltb, leb-true, ltb-true}
 use Rattle.std.specs.List.{AllByRecursion}
 use Rattle.std.proofs.lemmas.Bool.{and_parts}
 use Rattle.rz_machine.specs.declared.memory.Cell.{Cell}
 use Rattle.rz_machine.specs.declared.memory.Region.{Region}
-use Rattle.rz_machine.specs.Memory.{Regions, no_cell, contains, cell_in, cell_at, code_of, fetched, fetch, SameCode, NoSelfWritten}
+use Rattle.rz_machine.specs.Memory.{Regions, no_cell, contains, cell_in, cell_at, code_of, fetched, fetch, NoSelfWritten}
 use Rattle.rz_machine.specs.PlainImage.{IsPlainRegion}
 
 and_false : (b : Bool) → (b && false) ≡ false

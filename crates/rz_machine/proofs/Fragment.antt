@@ -1,7 +1,5 @@
 -- A fragment follows its instruction.
-use Rattle.std.proofs.Common.{◌≡◌, ℕ, zero, suc, ◌+◌, ◌%◌, ◌^◌, ◌<◌, ◌≤◌, inr, List, [], ◌∷◌, set, Option, Some, None, refl, sym, ap, ap₂, ◌∙◌, subst, arith, mod-eq_of_lt}
-use Rattle.rz_num.specs.declared.width.Width.{Width}
-use Rattle.rz_num.specs.declared.width.Width.TheVariants.{W32}
+use Rattle.std.proofs.Common.{◌≡◌, ℕ, ◌%◌, ◌^◌, ◌<◌, ◌≤◌, inr, List, [], ◌∷◌, set, Option, Some, None, refl, sym, ap, ap₂, ◌∙◌, subst, arith, mod-eq_of_lt}
 use Rattle.rz_machine.specs.declared.flags.Flags.{Flags}
 use Rattle.rz_machine.specs.declared.insn.Reg.TheVariants.{R}
 use Rattle.rz_machine.specs.declared.insn.Place.TheVariants.{Reg}
@@ -27,7 +25,7 @@ use Rattle.rz_machine.proofs.CodeLaws.{HasCode, step_code}
 use Rattle.rz_machine.proofs.OneForm.{DoneAlike, carry_alike, CalledAlike, call_alike}
 use Rattle.rz_machine.proofs.Runs.{dest, Follows, Stand}
 use Rattle.rz_machine.proofs.Placed.{InsnAt}
-use Rattle.rz_machine.proofs.Comes.{decodes_to, step_is, jump_is, ud2_is, Comes, stay, one_more, weaker, jump_comes, Onto, onto}
+use Rattle.rz_machine.proofs.Comes.{decodes_to, step_is, jump_is, ud2_is, Comes, one_more, weaker, jump_comes, Onto, onto}
 
 -- RCX is set anew
 rcx_again : (regs : List ℕ) (x y z w : ℕ) → set (set (set (set regs 0 x) 1 y) 11 z) 1 w ≡ set (set (set regs 0 x) 1 w) 11 z

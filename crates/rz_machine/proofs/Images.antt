@@ -1,10 +1,10 @@
 -- The memory of a new file: its added parts, and the old loads without the permission to execute.
-use Rattle.std.proofs.Common.{◌≡◌, ℕ, ◌+◌, ◌-◌, ◌<◌, ◌≤◌, ◌⊎◌, inl, inr, ⊎_elim, Bool, true, false, ◌&&◌, if◌then◌else◌, List, [], ◌∷◌, ◌++◌, length, map, get_or, Some, None, refl, sym, ap, ◌∙◌, arith, lt-ltb}
+use Rattle.std.proofs.Common.{◌≡◌, ℕ, ◌+◌, ◌-◌, ◌<◌, ◌≤◌, inl, inr, ⊎_elim, Bool, true, false, ◌&&◌, if◌then◌else◌, List, [], ◌∷◌, ◌++◌, length, map, get_or, Some, None, refl, ap, ◌∙◌, arith, lt-ltb}
 use Rattle.std.specs.List.{AllByRecursion}
 use Rattle.std.proofs.lemmas.Bool.{cond-true, cond-false}
 use Rattle.std.proofs.lemmas.List.{length-replicate}
 use Rattle.rz_machine.specs.declared.memory.Region.{Region}
-use Rattle.rz_machine.specs.Memory.{Regions, Range, contains, cell_in, cell_at, code_of, IsOutside, SameCell, zeros, whole_region}
+use Rattle.rz_machine.specs.Memory.{Regions, contains, cell_in, cell_at, code_of, IsOutside, SameCell, zeros, whole_region}
 use Rattle.rz_machine.specs.Added.{scratch_size}
 use Rattle.rz_machine.specs.WrittenFile.{Parts, read_write, read_only, read_execute, added_regions, without_code}
 use Rattle.rz_machine.proofs.Placed.{BytesAt, bytes_from}

@@ -1,8 +1,8 @@
 -- Two states that are alike have alike effects.
-use Rattle.std.proofs.Common.{◌≡◌, ℕ, zero, suc, ◌+◌, ◌^◌, ◌<◌, ◌≤◌, ◌⊎◌, inl, inr, ⊎_elim, Bool, true, false, if◌then◌else◌, List, [], ◌∷◌, length, Option, Some, None, Result, Ok, Err, refl, sym, ap, ap₂, subst, arith, min, leb-true, mod-eq_of_lt}
+use Rattle.std.proofs.Common.{◌≡◌, ℕ, zero, suc, ◌+◌, ◌^◌, ◌<◌, ◌≤◌, ◌⊎◌, inl, inr, ⊎_elim, Bool, true, false, if◌then◌else◌, List, [], ◌∷◌, length, Option, Some, None, Result, Ok, Err, refl, sym, ap₂, subst, arith, min, leb-true, mod-eq_of_lt}
 use Rattle.byteorder.specs.Endian.{little_bytes, little_number}
 use Rattle.rz_machine.specs.declared.memory.Cell.{Cell}
-use Rattle.rz_machine.specs.Memory.{Regions, Range, IsOutside, IsClear, SameCell, Alike, put_bytes, bytes_at, refused, is_readable, is_writable, wrap}
+use Rattle.rz_machine.specs.Memory.{Regions, Range, IsOutside, IsClear, SameCell, Alike, bytes_at, refused, is_readable, is_writable, wrap}
 use Rattle.rz_machine.specs.declared.flags.Flags.{Flags}
 use Rattle.rz_machine.specs.declared.sys.Reply.{Reply}
 use Rattle.rz_machine.specs.declared.sys.Reply.TheVariants.{Full, AtMost, Error}

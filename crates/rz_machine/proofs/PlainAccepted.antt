@@ -1,13 +1,11 @@
 -- What is loaded of an accepted file of bytes is plain.
-use Rattle.std.proofs.Common.{◌≡◌, ◌≢◌, ℕ, zero, suc, ◌+◌, ◌-◌, ◌/◌, ◌%◌, ◌<◌, ◌≤◌, Bool, true, false, not, ◌&&◌, if◌then◌else◌, nat_lt, nat_le, ◌==◌, List, [], ◌∷◌, ◌++◌, length, take, drop, map, filter, min, Option, Some, None, refl, sym, ap, ◌∙◌, subst, arith, length-append, length-take, eqb-true, ne_eqb, leb-true, le-ltb}
+use Rattle.std.proofs.Common.{◌≡◌, ℕ, zero, suc, ◌+◌, ◌-◌, ◌<◌, ◌≤◌, Bool, true, false, not, ◌&&◌, if◌then◌else◌, nat_lt, nat_le, ◌==◌, List, [], ◌∷◌, ◌++◌, length, take, drop, map, filter, Option, Some, None, refl, sym, ap, ◌∙◌, arith, length-append, length-take}
 use Rattle.std.specs.List.{AllByRecursion}
-use Rattle.std.proofs.lemmas.Bool.{and_parts}
 use Rattle.std.proofs.lemmas.Bool.Decides.{nat_tests}
 use Rattle.rz_machine.specs.declared.elf.ElfFault.{ElfFault}
 use Rattle.rz_machine.specs.declared.elf.ElfFault.TheVariants as fault
-use Rattle.rz_machine.specs.declared.memory.Region.{Region}
-use Rattle.rz_machine.specs.Memory.{Regions, zeros}
-use Rattle.rz_machine.specs.Elf.{Segment, segments, is_load, loads, file_header, placed_from, placed, against, Condition, first_of, each, of_segment, is_dynamic, is_stack_code, has_other_flags, is_writable_code, is_larger_in_file, leaves_file, is_misaligned, is_far, isnt_above, shares_page, has_flag, perm_of, file_conditions, header_conditions, load_conditions, fault_of, load_bytes, load_region, Image, image_of}
+use Rattle.rz_machine.specs.Memory.{zeros}
+use Rattle.rz_machine.specs.Elf.{Segment, segments, is_load, loads, file_header, placed_from, placed, against, Condition, first_of, each, of_segment, is_dynamic, is_stack_code, has_other_flags, is_writable_code, is_larger_in_file, leaves_file, is_misaligned, is_far, isnt_above, shares_page, has_flag, file_conditions, header_conditions, load_conditions, fault_of, load_bytes, load_region, image_of}
 use Rattle.rz_machine.specs.PlainImage.{IsPlainImage, IsPlainRegion}
 use Rattle.rz_machine.proofs.Accepted.{NoneHolds}
 use Rattle.rz_machine.proofs.ThinLaws.{length-zeros}

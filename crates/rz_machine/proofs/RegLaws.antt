@@ -1,5 +1,5 @@
 -- Registers stay sixteen words below 2^64.
-use Rattle.std.proofs.Common.{◌≡◌, ℕ, zero, suc, ◌+◌, ◌-◌, ◌%◌, ◌^◌, ◌<◌, ◌≤◌, true, false, List, [], ◌∷◌, length, get_or, set, min, Option, Some, None, refl, ◌∙◌, arith, length-set, subst}
+use Rattle.std.proofs.Common.{◌≡◌, ℕ, zero, suc, ◌+◌, ◌^◌, ◌<◌, ◌≤◌, true, false, List, [], ◌∷◌, length, get_or, set, Option, Some, None, refl, ◌∙◌, arith, length-set}
 use Rattle.std.specs.List.{AllByRecursion}
 use Rattle.rz_num.specs.declared.width.Width.{Width}
 use Rattle.rz_num.specs.declared.width.Width.TheVariants.{W8, W16, W32, W64}
@@ -20,8 +20,8 @@ use Rattle.rz_machine.specs.declared.sys.World.{World}
 use Rattle.rz_machine.specs.Memory.{Regions, wrap}
 use Rattle.rz_machine.specs.Insn.{Decoder, IsNamed}
 use Rattle.rz_machine.specs.Effect.{carry, read_words, written}
-use Rattle.rz_machine.specs.Answer.{Called, Call, Write, NoFile, Exit, Other, answer, answer_as, call_in, cut_count, write_allowed, write_reply, next_reply, negative}
-use Rattle.rz_machine.specs.State.{step, after, act, perform, running, after_exit, regs_after, flags_word, bit_of, decoded_at}
+use Rattle.rz_machine.specs.Answer.{Called, Call, Write, NoFile, Exit, Other, answer, answer_as, call_in, cut_count, write_allowed, write_reply, next_reply}
+use Rattle.rz_machine.specs.State.{step, act, perform, running, after_exit, flags_word, bit_of, decoded_at}
 
 -- a word of 64 bits
 abbrev pub IsWord : ℕ → Type 0
