@@ -21,6 +21,7 @@ abbrev pub total_len : List Fragment → ℕ
 total_len [] = 0
 total_len (f ∷ rest) = items_len f.items + total_len rest
 
+-- the bytes have that length
 pub length-fragments_bytes : (at : Label → ℕ) (from : ℕ) (frags : List Fragment) → length (fragments_bytes at from frags) ≡ total_len frags
 unfolding fragments_bytes
 length-fragments_bytes at from [] = refl

@@ -82,9 +82,11 @@ module _ (x : Image) (kept : Record) (parts : Parts) (entry : ℕ) (can : IsRewr
   abbrev rest : Regions
   rest = map without_code x.loads ++ ends
 
+  -- the new run's memory begins with the added parts
   new_mem : new.mem ≡ Whole parts rest
   new_mem = append_assoc (added_regions parts) (map without_code x.loads) ends
 
+  -- these lie as the layout says
   where_parts_lie : Lie a parts.base (length parts.tables) (length parts.code) (length parts.stubs)
   where_parts_lie = lie decode_first x kept room parts entry are.parts_added
 
@@ -100,20 +102,24 @@ module _ (x : Image) (kept : Record) (parts : Parts) (entry : ℕ) (can : IsRewr
       same : (b : ℕ) → IsOutside lay.added b → SameCell (cell_at old.mem b) (cell_at new.mem b)
       same b out = rw (new_mem, beside parts rest b (outside b out)) (stripped_same x.loads ends b)
 
+  -- the old run's code is that of the loads
   old_code : HasCode x.loads old.mem
   old_code = start_code x input (none_self_written x.loads (plain_fixed x.loads plain))
 
+  -- the new run's code can't be written
   new_code : HasCode new.mem new.mem
   new_code =
       let loads = (new_image x parts entry).loads in
       let fixed = all_append IsFixed (added_regions parts) (map without_code x.loads) (added_fixed parts rest) (stripped_fixed x.loads) in
       record { same = record { at = λ b. refl }; fixed = (start_code (new_image x parts entry) input (none_self_written loads fixed)).fixed }
 
+  -- the fragments stand in the code part
   code_bytes : BytesAt new.mem a.code (code_of_nodes decode_first x kept ++ are.fill)
   code_bytes =
       let P : Regions → ℕ → Type 0 = λ m p. BytesAt m p (code_of_nodes decode_first x kept ++ are.fill) in
       subst (λ p. P new.mem p) where_parts_lie.code (subst (λ m. P m (code_at parts rest)) (sym new_mem) (subst (BytesAt (Whole parts rest) (code_at parts rest)) are.code (code_there parts rest)))
 
+  -- and the stubs in theirs
   stub_bytes : BytesAt new.mem a.stubs parts.stubs
   stub_bytes =
       subst (λ p. BytesAt new.mem p parts.stubs) where_parts_lie.stubs (subst (λ m. BytesAt m (stubs_at parts rest) parts.stubs) (sym new_mem) (stubs_there parts rest))
@@ -188,6 +194,7 @@ module _ (x : Image) (kept : Record) (parts : Parts) (entry : ℕ) (can : IsRewr
         perms = record { at = λ b i. record { read = refl; write = refl; execute = refl } };
       }
 
+  -- a kept node's instruction is fit for the machine
   named : (b : ℕ) → IsKept b → (y : Insn) (len : ℕ) → spelled_at decode_first x.loads b ≡ decoded.Insn y len → IsNamed y
   named b node y len e = (stands x plain b y len e).named
 

@@ -26,6 +26,7 @@ pub record Lie (a : Added) (base t c s : ℕ) : Type 0 where
   pub stubs : base + scratch_size + t + c ≡ a.stubs
   pub stop : base + scratch_size + t + c + s ≡ a.stop
 
+-- parts of these sizes lie one after the other up to the stop
 pub parts_lie : (tables_len code_len stubs_len stop base t c s : ℕ) → scratch_size + tables_len + code_len + stubs_len ≤ stop
     → let a = parts_below tables_len code_len stubs_len stop in base ≡ a.scratch → t ≡ a.code - a.tables → c ≡ a.stubs - a.code → s ≡ a.stop - a.stubs → Lie a base t c s
 parts_lie tables_len code_len stubs_len stop base t c s room b tl cl sl = record { scratch = b; code = omega arith; stubs = omega arith; stop = omega arith }

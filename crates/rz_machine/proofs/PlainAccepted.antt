@@ -40,6 +40,7 @@ record IsSound (s : Segment) : Type 0 where
   small : is_larger_in_file s ≡ false
   near : is_far s ≡ false
 
+-- the conditions together
 all_sound : (segs : List Segment) → AllByRecursion (λ s. has_other_flags s ≡ false) segs → AllByRecursion (λ s. is_writable_code s ≡ false) segs → AllByRecursion (λ s. is_larger_in_file s ≡ false) segs → AllByRecursion (λ s. is_far s ≡ false) segs → AllByRecursion IsSound segs
 all_sound [] a b c d = tt
 all_sound (s ∷ segs) a b c d = (record { flags = a.0; fixed = b.0; small = c.0; near = d.0 }, all_sound segs a.1 b.1 c.1 d.1)
@@ -81,10 +82,12 @@ all_drop P zero bs h = h
 all_drop P (suc n) [] h = h
 all_drop P (suc n) (b ∷ bs) h = all_drop P n bs h.1
 
+-- two lists of bytes
 all_two : (P : ℕ → Type 0) (a b : List ℕ) → AllByRecursion P a → AllByRecursion P b → AllByRecursion P (a ++ b)
 all_two P [] b h k = k
 all_two P (c ∷ a) b h k = (h.0, all_two P a b h.1 k)
 
+-- zeros are bytes
 all_zeros : (n : ℕ) → AllByRecursion (λ b. b < 256) (zeros n)
 unfolding zeros
 all_zeros zero = tt

@@ -22,6 +22,7 @@ use Rattle.rz_machine.proofs.WrittenLaws.{PartsFit, written_image}
 use Rattle.rz_machine.proofs.AddedLaws.{sites-first, site_edges-first, thin_added, added-thin, parts_fit, inert_of}
 use Rattle.rz_machine.proofs.KeepsWritten.{keeps_written}
 
+-- a test that holds
 or_true : (b : Bool) → (b || true) ≡ true
 or_true true = refl
 or_true false = refl
@@ -32,6 +33,7 @@ all_members P [] h = tt
 all_members P (c ∷ nodes) h =
     (h c (ap (λ v. v || has_node nodes c) (eq-eqb c c refl)), all_members P nodes (λ b e. h b (ap (λ v. (c == b) || v) e ∙ or_true (c == b))))
 
+-- addresses above one bound and below another
 both : (low high : ℕ) (nodes : List ℕ) → AllByRecursion (λ b. low < b) nodes → AllByRecursion (λ b. b < high) nodes → AllByRecursion (λ b. (suc low ≤ b) × (b < high)) nodes
 both low high [] h k = tt
 both low high (c ∷ nodes) h k = ((omega (arith, h.0), k.0), both low high nodes h.1 k.1)
@@ -66,6 +68,7 @@ module _ (code : List ℕ) (some : 1 ≤ length code) (few : length code ≤ 655
       (λ b e. let n = can.nodes b e in executed_in_code code b (stands (code_image code) plain b n.insn n.len n.spelled).first) in
       omega (arith, few_ascending thin_base (thin_base + length code) kept.nodes can.ascending inside)
 
+  -- the entry is a kept node
   nodes_some : 1 ≤ length kept.nodes
   nodes_some = go kept.nodes can.entry
     where
@@ -73,6 +76,7 @@ module _ (code : List ℕ) (some : 1 ≤ length code) (few : length code ≤ 655
       go [] e = absurd (cc)
       go (c ∷ nodes) e = omega arith
 
+  -- the parts of so few nodes fit below the code
   room : HasRoom decode_first (code_image code) kept
   room =
       rw (sites-first (code_region code ∷ []) kept.nodes, site_edges-first (code_region code ∷ []) kept.edges)
