@@ -1,16 +1,99 @@
 //! Fragments: the items that stand for each kept instruction.
 
-ghost use Rattle.std.specs.Prelude.{◌≡◌, ◌+◌, ◌<◌, ◌≤◌, [], ◌∷◌, ◌++◌, length, IfOk};
+ghost use Rattle.std.specs.Prelude.{◌≡◌, ◌+◌, ◌^◌, ◌<◌, ◌≤◌, [], ◌∷◌, ◌++◌, length, drop, All, IfOk};
 ghost use Rattle.rz_machine.specs.declared.items.Item.TheVariants as item;
-ghost use Rattle.rz_machine.specs.First.{mov_number as mov_number_of};
-ghost use Rattle.rz_machine.specs.Fragments.{items_for, items_of, is_following as is_following_label, to_label, trimmed};
+ghost use Rattle.rz_machine.specs.First.{decode_first, mov_number as mov_number_of};
+ghost use Rattle.rz_machine.specs.Fragments.{items_for, items_of, is_following as is_following_label, first_node, fragments, to_label, trimmed};
+ghost use Rattle.rz_machine.specs.Nodes.{spelled_at};
+ghost use Rattle.rz_machine.specs.TableLaws.{AreBytes};
+ghost use Rattle.rz_core.specs.Spellable.{IsDecodedSpellable, IsFragmentSpellable};
 
 use rz_machine::decode::Decoded;
+use rz_machine::first::First;
 use rz_machine::insn::{Insn, Operand, Place, Reg};
 use rz_machine::items::{Fragment, Item, Items, Label};
+use rz_machine::memory::Memory;
+use rz_machine::table::InsnTable;
 use rz_machine::trace::EdgeSet;
 use rz_num::{OutOfMemory, Width};
 use std::alloc::Global;
+use std::marker::Model;
+
+/// Fragments, one after the other.
+#[derive(Drop)]
+pub struct Fragments {
+    items: Vec<Fragment>,
+}
+
+impl Model for Fragments {
+    ghost use Rattle.std.specs.Prelude.{List};
+    ghost use Rattle.rz_machine.specs.declared.items.Fragment.{Fragment};
+
+    ghost Value = { List Fragment };
+
+    ghost view = { λ f. f.items.items };
+}
+
+impl Fragments {
+    /// The fragments as a slice.
+    pub fn as_slice(&self) -> &[Fragment]
+        ensures { result.now ≡ self.now }
+    {
+        self.items.as_slice()
+    }
+}
+
+/// The fragments of nodes, whose instructions stand in a memory, for the kept edges. Where nothing is decoded at a
+/// node, its fragment ends the run. It refuses for want of memory alone.
+pub fn fragments_of(
+    alloc: Global,
+    memory: &Memory,
+    nodes: &[u64],
+    edges: &EdgeSet,
+) -> Result<Fragments, OutOfMemory>
+    requires low { All (λ a. a < 2 ^ 31) nodes.now }
+    ensures value { IfOk result (λ list. list ≡ fragments decode_first memory.now edges.now nodes.now) }
+    ensures spellable { IfOk result (λ list. All IsFragmentSpellable list) }
+{
+    let mut items = Vec::new(alloc);
+    for i in 0..nodes.len() {
+        let at = nodes[i];
+        let decoded = decoded_at(memory, at);
+        let following = node_after(nodes, i);
+        items.push(fragment(alloc, at, &decoded, edges, following)?)?;
+    }
+    Ok(Fragments { items })
+}
+
+// What the executable bytes at an address spell.
+fn decoded_at(memory: &Memory, at: u64) -> Decoded
+    ensures value { result ≡ spelled_at decode_first memory.now at }
+    ensures spellable { IsDecodedSpellable result }
+{
+    let mut out = [0; 15];
+    let n = memory.fetch(at, &mut out);
+    let bytes = &out[..n as usize];
+    are_bytes(bytes);
+    First::decode(bytes, at)
+}
+
+// The items of a slice of bytes are bytes.
+pub(crate) fn are_bytes(bytes: &[u8])
+    ensures { AreBytes bytes.now }
+{
+    let _ = bytes;
+}
+
+// The node after the one at a place.
+fn node_after(nodes: &[u64], i: usize) -> Option<u64>
+    requires { i < length nodes.now }
+    ensures { result ≡ first_node (drop (i + 1) nodes.now) }
+{
+    match &nodes[i + 1..] {
+        [] => None,
+        [next, ..] => Some(*next),
+    }
+}
 
 /// The fragment of what is decoded at the address `at`. `following` is the address whose fragment stands next.
 /// It refuses for want of memory alone.

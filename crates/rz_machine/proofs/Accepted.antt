@@ -1,12 +1,12 @@
 -- When a file has no fault: one fact for each condition.
-use Rattle.std.proofs.Common.{◌≡◌, ℕ, zero, suc, ◌+◌, ◌-◌, ◌*◌, ◌/◌, ◌%◌, ◌^◌, ◌<◌, ◌≤◌, Bool, true, false, not, ◌&&◌, ◌||◌, if◌then◌else◌, nat_lt, nat_le, ◌==◌, List, [], ◌∷◌, ◌++◌, length, Option, Some, None, refl, sym, ap, ap₂, ◌∙◌, arith}
-use Rattle.std.specs.Prelude.{sum_by, filter, map, nat_eq, count_ones}
+use Rattle.std.proofs.Common.{◌≡◌, ℕ, suc, ◌+◌, ◌*◌, ◌%◌, ◌<◌, ◌≤◌, Bool, true, false, List, [], ◌∷◌, ◌++◌, length, Option, Some, None, refl, ap, arith}
+use Rattle.std.specs.Prelude.{sum_by, filter, nat_eq, count_ones}
 use Rattle.std.specs.Int.Count.{ones, ones_in, ones_cat}
 use Rattle.std.specs.List.{AllByRecursion, list_any, starts_with}
 use Rattle.std.proofs.lemmas.Bool.Decides.{nat_tests}
 use Rattle.rz_machine.specs.declared.elf.ElfFault.{ElfFault}
 use Rattle.rz_machine.specs.declared.elf.ElfFault.TheVariants as fault
-use Rattle.rz_machine.specs.Elf.{Segment, segments, is_load, is_stack, loads, file_header, FileHeader, field, Placed, placed_from, placed, against, Condition, first_of, each, of_segment, is_dynamic, is_stack_code, has_other_flags, is_writable_code, is_larger_in_file, leaves_file, is_misaligned, is_far, isnt_above, shares_page, has_entry, page, last_page, file_conditions, header_conditions, load_conditions, fault_of}
+use Rattle.rz_machine.specs.Elf.{Segment, segments, is_load, loads, file_header, FileHeader, field, Placed, placed_from, placed, against, Condition, first_of, each, of_segment, is_dynamic, is_stack_code, has_other_flags, is_writable_code, is_larger_in_file, leaves_file, is_misaligned, is_far, isnt_above, shares_page, has_entry, page, last_page, file_conditions, header_conditions, load_conditions, fault_of}
 
 -- no condition of the list holds
 abbrev pub NoneHolds : List Condition → Type 0

@@ -1,9 +1,6 @@
 -- The parts that are added to a thin file under the first table: their sizes and places.
-use Rattle.std.proofs.Common.{◌≡◌, ℕ, zero, suc, ◌+◌, ◌-◌, ◌*◌, ◌/◌, ◌%◌, ◌^◌, ◌<◌, ◌≤◌, Bool, true, false, if◌then◌else◌, nat_le, ◌==◌, ◌&&◌, List, [], ◌∷◌, ◌++◌, length, replicate, refl, sym, ap, ap₂, ◌∙◌, subst, arith}
-use Rattle.std.specs.Prelude.{filter, flat_map}
+use Rattle.std.proofs.Common.{◌≡◌, ℕ, ◌-◌, ◌*◌, ◌%◌, ◌<◌, ◌≤◌, Bool, true, false, if◌then◌else◌, nat_le, ◌==◌, ◌&&◌, List, [], ◌∷◌, length, replicate, refl, sym, ap, ap₂, ◌∙◌, subst, arith}
 use Rattle.std.proofs.lemmas.List.{length-append, length-replicate}
-use Rattle.byteorder.specs.Endian.{little_bytes}
-use Rattle.rz_num.specs.Page.{page_up}
 use Rattle.rz_machine.specs.declared.decode.Decoded.{Decoded}
 use Rattle.rz_machine.specs.declared.decode.Decoded.TheVariants as decoded
 use Rattle.rz_machine.specs.declared.trace.Record.{Record}
@@ -11,11 +8,11 @@ use Rattle.rz_machine.specs.Memory.{Regions, fetch}
 use Rattle.rz_machine.specs.Insn.{kind_of, is_site}
 use Rattle.rz_machine.specs.Nodes.{is_site_at}
 use Rattle.rz_machine.specs.First.{decode_first, jmp_of, mov_of, second_of}
-use Rattle.rz_machine.specs.Elf.{Image, image_of, fault_of}
-use Rattle.rz_machine.specs.Added.{Added, sites, site_edges, tables_size, code_size, stubs_size, scratch_size, parts_below, added, stub_bytes, all_stubs, filled}
+use Rattle.rz_machine.specs.Elf.{image_of, fault_of}
+use Rattle.rz_machine.specs.Added.{Added, sites, site_edges, tables_size, code_size, stubs_size, parts_below, added, all_stubs, filled}
 use Rattle.rz_machine.specs.WrittenFile.{Parts, IsAdded, stubs_part, written_file, new_image, Inert}
 use Rattle.rz_machine.specs.Thin.{thin_base, thin_file, IsThin}
-use Rattle.rz_machine.proofs.ThinLaws.{code_region, code_image, thin_image}
+use Rattle.rz_machine.proofs.ThinLaws.{code_region, thin_image}
 use Rattle.rz_machine.proofs.WrittenLaws.{PartsFit, written_accepted, written_image}
 
 -- whether what is decoded is a return or an indirect transfer

@@ -1,12 +1,11 @@
 -- What is read of headers is what was written.
-use Rattle.std.proofs.Common.{◌≡◌, ℕ, zero, suc, ◌+◌, ◌-◌, ◌*◌, ◌/◌, ◌%◌, ◌^◌, ◌<◌, ◌≤◌, List, [], ◌∷◌, ◌++◌, length, take, drop, refl, sym, ap, ◌∙◌, arith}
+use Rattle.std.proofs.Common.{◌≡◌, ℕ, ◌^◌, ◌<◌, List, [], ◌∷◌, ◌++◌, length, drop, refl}
 use Rattle.std.specs.Prelude.{flat_map}
 use Rattle.std.specs.List.{AllByRecursion}
-use Rattle.std.proofs.lemmas.List.{append_assoc}
 use Rattle.byteorder.specs.Endian.{little_bytes, little_number}
 use Rattle.byteorder.specs.Numbers.{little_number-reads_back}
-use Rattle.rz_machine.specs.Elf.{Segment, segment_of, segments_of, segments, file_header, FileHeader, field}
-use Rattle.rz_machine.specs.WrittenFile.{segment_bytes, header_bytes}
+use Rattle.rz_machine.specs.Elf.{Segment, segment_of, segments_of}
+use Rattle.rz_machine.specs.WrittenFile.{segment_bytes}
 
 -- the fields of a program header fit their places
 pub record IsEncodable (s : Segment) : Type 0 where
@@ -25,9 +24,6 @@ word v h = little_number-reads_back 4 v [] h
 pub long : (v : ℕ) → v < 2 ^ 64 → little_number 8 (little_bytes 8 v) ≡ v
 long v h = little_number-reads_back 8 v [] h
 
-pub half : (v : ℕ) → v < 2 ^ 16 → little_number 2 (little_bytes 2 v) ≡ v
-half v h = little_number-reads_back 2 v [] h
-
 -- the program header that was written first
 pub segment_of-segment_bytes : (s : Segment) (rest : List ℕ) → IsEncodable s → segment_of (segment_bytes s ++ rest) ≡ s
 segment_of-segment_bytes s rest h = λ i. record {
@@ -40,9 +36,6 @@ segment_of-segment_bytes s rest h = λ i. record {
   memsz = long s.memsz h.memsz i;
   align = long s.align h.align i;
 }
-
-drop-segment_bytes : (s : Segment) (rest : List ℕ) → drop 56 (segment_bytes s ++ rest) ≡ rest
-drop-segment_bytes s rest = refl
 
 -- all program headers that were written
 pub segments_of-segment_bytes : (segs : List Segment) (rest : List ℕ) → AllByRecursion IsEncodable segs → segments_of (length segs) (flat_map segment_bytes segs ++ rest) ≡ segs

@@ -33,3 +33,5 @@ pub mod RewrittenLaws
 pub mod PlainNodes
 pub mod ThinKept
 pub mod PlainAccepted
+pub mod ThinLoads
+pub mod GreetingRuns

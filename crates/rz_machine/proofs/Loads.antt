@@ -26,7 +26,7 @@ length-loaded bytes l is =
     let c = length-zeros (l.size - l.file_size) in
     omega arith
 
-loads_fit : (bytes : List ℕ) (ls : List Load) (rest : Regions) → AllByRecursion (IsLoad (length bytes)) ls → RegionsFit rest → RegionsFit (map (loaded_region bytes) ls ++ rest)
+pub loads_fit : (bytes : List ℕ) (ls : List Load) (rest : Regions) → AllByRecursion (IsLoad (length bytes)) ls → RegionsFit rest → RegionsFit (map (loaded_region bytes) ls ++ rest)
 loads_fit bytes [] rest all fit = fit
 loads_fit bytes (l ∷ ls) rest all fit =
     let e = length-loaded bytes l all.0 in

@@ -1,17 +1,16 @@
 -- A thin file is accepted, and what is loaded of it is its code.
-use Rattle.std.proofs.Common.{◌≡◌, ℕ, zero, suc, ◌+◌, ◌-◌, ◌*◌, ◌/◌, ◌%◌, ◌^◌, ◌<◌, ◌≤◌, Bool, true, false, max, List, [], ◌∷◌, ◌++◌, length, take, drop, map, replicate, Option, Some, None, refl, sym, ap, ap₂, ◌∙◌, arith}
-use Rattle.std.specs.Prelude.{sum_by, filter}
-use Rattle.std.specs.List.{AllByRecursion, list_any, starts_with}
-use Rattle.std.proofs.lemmas.List.{append-nil, append_assoc, length-append, length-replicate, drop_at, take_all}
+use Rattle.std.proofs.Common.{◌≡◌, ℕ, ◌+◌, ◌-◌, ◌≤◌, true, max, List, [], ◌∷◌, ◌++◌, length, drop, map, None, refl, sym, ap, ◌∙◌, arith}
+use Rattle.std.specs.List.{list_any}
+use Rattle.std.proofs.lemmas.List.{append-nil, length-append, length-replicate, drop_at, take_all}
 use Rattle.std.proofs.lemmas.Bool.Decides.{nat_tests}
 use Rattle.rz_num.specs.Page.{page_up}
 use Rattle.rz_machine.specs.declared.memory.Region.{Region}
 use Rattle.rz_machine.specs.Memory.{zeros}
-use Rattle.rz_machine.specs.Elf.{Segment, segments, is_load, loads, file_header, FileHeader, field, has_entry, fault_of, load_bytes, load_region, highest_end, Image, image_of}
-use Rattle.rz_machine.specs.WrittenFile.{segment_bytes, read_execute, moved, kept_segments}
-use Rattle.rz_machine.specs.Thin.{thin_base, thin_segment, thin_header, thin_file, IsThin}
+use Rattle.rz_machine.specs.Elf.{Segment, segments, is_load, file_header, FileHeader, has_entry, fault_of, load_bytes, load_region, Image, image_of}
+use Rattle.rz_machine.specs.WrittenFile.{read_execute, moved, kept_segments}
+use Rattle.rz_machine.specs.Thin.{thin_base, thin_segment, thin_file, IsThin}
 use Rattle.rz_machine.proofs.HeaderLaws.{IsEncodable, segments_of-segment_bytes}
-use Rattle.rz_machine.proofs.Accepted.{IsGoodLoad, AreGoodLoads, is_load-good, executable_header, HasGoodHeaders, loads-good, fault_of_none}
+use Rattle.rz_machine.proofs.Accepted.{IsGoodLoad, is_load-good, executable_header, HasGoodHeaders, loads-good, fault_of_none}
 
 pub length-zeros : (n : ℕ) → length (zeros n) ≡ n
 unfolding zeros
@@ -87,20 +86,21 @@ thin_headers code h k =
       entered = thin_entered (length code) h;
     }
 
--- the load of the code in a written file: a page further on, and not executable
-abbrev pub kept_segment : ℕ → Segment
-kept_segment n =
-    record { kind = 1; flags = 4; offset = 8192; vaddr = thin_base; paddr = thin_base; filesz = n; memsz = n; align = 4096 }
+thin_load : (n : ℕ) → 1 ≤ n → n ≤ 65536 → is_load (thin_segment n) ≡ true
+thin_load n h k = is_load-good (4096 + n) (thin_segment n) (thin_load_good n (4096 + n) h k (omega arith))
 
 thin_moved : (code : List ℕ) → 1 ≤ length code → length code ≤ 65536 → kept_segments (thin_file code) ≡ moved (thin_segment (length code)) ∷ []
-thin_moved code h k =
-    let l : is_load (thin_segment (length code)) ≡ true = is_load-good (4096 + length code) (thin_segment (length code)) (thin_load_good (length code) (4096 + length code) h k (omega arith)) in
-    rw (thin_segments code k, l, l) refl
+thin_moved code h k = let l = thin_load (length code) h k in rw (thin_segments code k, l, l) refl
+
+-- the load of the code in a written file: a page further on, and not executable
+abbrev pub kept_segment : ℕ → Segment
+kept_segment n = record { kind = 1; flags = 4; offset = 8192; vaddr = thin_base; paddr = thin_base; filesz = n; memsz = n; align = 4096 }
+
+moved_thin : (n : ℕ) → 1 ≤ n → n ≤ 65536 → moved (thin_segment n) ≡ kept_segment n
+moved_thin n h k = rw (thin_load n h k) refl
 
 pub thin_kept : (code : List ℕ) → 1 ≤ length code → length code ≤ 65536 → kept_segments (thin_file code) ≡ kept_segment (length code) ∷ []
-thin_kept code h k =
-    let l : is_load (thin_segment (length code)) ≡ true = is_load-good (4096 + length code) (thin_segment (length code)) (thin_load_good (length code) (4096 + length code) h k (omega arith)) in
-    rw (thin_segments code k, l, l) refl
+thin_kept code h k = thin_moved code h k ∙ ap (λ (s : Segment). s ∷ []) (moved_thin (length code) h k)
 
 pub thin_accepted : (code : List ℕ) → 1 ≤ length code → length code ≤ 65536 → fault_of (thin_file code) ≡ None
 thin_accepted code h k = fault_of_none (thin_headers code h k)

@@ -232,7 +232,7 @@ step_direct dec m s code b e =
     let stepped : step dec s ≡ perform b.insn (wrap (s.cpu.rip + b.len)) s = step_running dec s b.running ∙ ap (λ d. act d s) b.spelled in
     let P : Decoded → ℕ → Type 0 = λ d to. is_site_at (λ bs at. d) m s.cpu.rip ≡ false → has_node (direct_at (λ bs at. d) m s.cpu.rip) to ≡ true in
     let there : P (decoded.Insn b.insn b.len) (perform b.insn (wrap (s.cpu.rip + b.len)) s).cpu.rip =
-        λ site. leads_direct b.insn (wrap (s.cpu.rip + b.len)) s site (ap (λ t. t.end) (sym stepped) ∙ e) in
+    λ site. leads_direct b.insn (wrap (s.cpu.rip + b.len)) s site (ap (λ t. t.end) (sym stepped) ∙ e) in
     subst (λ d. P d (step dec s).cpu.rip) (sym same) (subst (λ t. P (decoded.Insn b.insn b.len) t.cpu.rip) (sym stepped) there)
 
 -- each edge of a run that leaves no site is to a static successor
@@ -256,6 +256,6 @@ begun_direct dec m (suc n) s a b code h = go (begins_or dec s) (begun_head dec n
         let found = edge (here ∷ []) (there ∷ more) at.at is in
         ⊎_elim
         (λ e. let p = and_parts (here == a) (there == b) e in
-            subst (λ c. IsDirect dec m c b) (eqb-true here a p.0) (subst (λ c. IsDirect dec m here c) (eqb-true there b p.1) (step_direct dec m s code at next.running)))
+        subst (λ c. IsDirect dec m c b) (eqb-true here a p.0) (subst (λ c. IsDirect dec m here c) (eqb-true there b p.1) (step_direct dec m s code at next.running)))
         (λ e. ih (subst (λ k. has_edge (neighbours k) a b ≡ true) (sym is) e))
         (or_true (here == a && there == b) (has_edge (neighbours (there ∷ more)) a b) found)

@@ -1,19 +1,17 @@
 -- The written file of a thin file is accepted, and what is loaded of it is the new image.
-use Rattle.std.proofs.Common.{◌≡◌, ℕ, zero, suc, ◌+◌, ◌-◌, ◌*◌, ◌/◌, ◌%◌, ◌^◌, ◌<◌, ◌≤◌, Bool, true, false, max, List, [], ◌∷◌, ◌++◌, length, take, drop, map, Option, Some, None, refl, sym, ap, ap₂, ◌∙◌, subst, arith}
+use Rattle.std.proofs.Common.{◌≡◌, ℕ, ◌+◌, ◌-◌, ◌*◌, ◌%◌, ◌^◌, ◌<◌, ◌≤◌, true, List, [], ◌∷◌, ◌++◌, length, drop, map, None, refl, sym, ap, ◌∙◌, subst, arith}
 use Rattle.std.specs.Prelude.{sum_by, flat_map, nat_eq}
 use Rattle.std.specs.List.{AllByRecursion, list_any, starts_with}
 use Rattle.std.proofs.lemmas.List.{append-nil, append_assoc, length-append, drop_at, drop-drop, drop-append-le, take_at}
 use Rattle.std.proofs.lemmas.Bool.Decides.{nat_tests}
-use Rattle.byteorder.specs.Endian.{little_bytes, little_number}
 use Rattle.rz_num.specs.Page.{page_up}
-use Rattle.rz_machine.specs.declared.memory.Region.{Region}
-use Rattle.rz_machine.specs.Memory.{Regions, zeros, whole_region}
+use Rattle.rz_machine.specs.Memory.{zeros, whole_region}
 use Rattle.rz_machine.specs.Added.{scratch_size}
-use Rattle.rz_machine.specs.Elf.{Segment, segments, segments_of, loads, file_header, FileHeader, field, has_entry, fault_of, perm_of, load_bytes, load_region, highest_end, Image, image_of}
-use Rattle.rz_machine.specs.WrittenFile.{Parts, segment_bytes, header_bytes, header_page, added_segment, added_segments, kept_segments, new_segments, written_file, added_regions, read_only, read_write, read_execute, without_code, new_image}
+use Rattle.rz_machine.specs.Elf.{Segment, segments, segments_of, file_header, FileHeader, field, has_entry, fault_of, perm_of, load_bytes, load_region, highest_end, Image, image_of}
+use Rattle.rz_machine.specs.WrittenFile.{Parts, segment_bytes, header_bytes, header_page, added_segment, added_segments, new_segments, written_file, added_regions, read_write, without_code, new_image}
 use Rattle.rz_machine.specs.Thin.{thin_base, thin_file}
-use Rattle.rz_machine.proofs.HeaderLaws.{IsEncodable, segments_of-segment_bytes, word, long, half}
-use Rattle.rz_machine.proofs.Accepted.{IsGoodLoad, IsPast, AreGoodLoads, executable_header, HasGoodHeaders, loads-good, fault_of_none}
+use Rattle.rz_machine.proofs.HeaderLaws.{IsEncodable, segments_of-segment_bytes, long}
+use Rattle.rz_machine.proofs.Accepted.{IsGoodLoad, AreGoodLoads, executable_header, HasGoodHeaders, loads-good, fault_of_none}
 use Rattle.rz_machine.proofs.ThinLaws.{length-zeros, zeros-none, length-thin_file, drop-thin_file, kept_segment, thin_kept, code_region, code_image, thin_image}
 
 -- parts of whole pages that end where a thin file's code begins, and an entry in the code part
@@ -146,8 +144,8 @@ length-written_file code p entry h k =
     ap length (written_paged code p entry h k) ∙ l
 
 -- the program headers of the written file
-scratch_good : (n len : ℕ) (p : Parts) (entry : ℕ) → PartsFit p entry → IsGoodLoad len (added_segment 6 0 p.base 0 scratch_size)
-scratch_good n len p entry fit =
+scratch_good : (len : ℕ) (p : Parts) (entry : ℕ) → PartsFit p entry → IsGoodLoad len (added_segment 6 0 p.base 0 scratch_size)
+scratch_good len p entry fit =
     let a = fit.base_low in
     let b = fit.base_paged in
     let c = fit.ends in
@@ -201,7 +199,7 @@ loads_good_at n len p entry h k fit long =
     let of0 : tables_at n % 4096 ≡ 0 = omega arith in
     let of1 : (tables_at n + t) % 4096 ≡ 0 = omega arith in
     let of2 : (tables_at n + t + c) % 4096 ≡ 0 = omega arith in (
-      scratch_good n len p entry fit,
+      scratch_good len p entry fit,
       tt,
       (
         part_good len 4 (tables_at n) (p.base + 4096) t (omega arith) (omega arith) t0 (omega arith) of0 at0 (omega arith) (omega arith),

@@ -104,3 +104,42 @@ fn displace(next: u64, displacement: u32) -> u64
 {
     next.wrapping_add(sign_extend(Width::W32, displacement as u64))
 }
+
+#[cfg(test)]
+mod tests {
+    use super::*;
+
+    fn named(register: u8, value: u64) -> Insn {
+        Insn::Mov {
+            w: Width::W32,
+            dst: Place::Reg(Reg::R(register)),
+            src: Operand::Imm(value),
+        }
+    }
+
+    fn whole(insn: Insn, len: u8) -> Decoded {
+        Decoded::Insn { insn, len }
+    }
+
+    #[test]
+    fn decodes_rows(rt: HostRuntime) {
+        let mov = First::decode(&[0xb8, 1, 0, 0, 0, 0x90], 0x40_1000);
+        assert!(rt; mov == whole(named(0, 1), 5));
+        let high = First::decode(&[0xbf, 0xff, 0xff, 0xff, 0xff], 0x40_1000);
+        assert!(rt; high == whole(named(7, 0xffff_ffff), 5));
+        let back = First::decode(&[0xe9, 0xf0, 0xff, 0xff, 0xff], 0x40_1020);
+        assert!(rt; back == whole(Insn::Jmp { target: 0x40_1015 }, 5));
+        assert!(rt; First::decode(&[0x0f, 0x05], 0) == whole(Insn::Syscall, 2));
+        assert!(rt; First::decode(&[0x0f, 0x0b], 0) == whole(Insn::Ud2, 2));
+        assert!(rt; First::decode(&[0x90, 0, 0, 0, 0], 0) == Decoded::Unknown);
+        assert!(rt; First::decode(&[0x0f, 0x06], 0) == Decoded::Unknown);
+    }
+
+    #[test]
+    fn decodes_short_rows(rt: HostRuntime) {
+        assert!(rt; First::decode(&[], 0) == Decoded::Short);
+        assert!(rt; First::decode(&[0x0f], 0) == Decoded::Short);
+        assert!(rt; First::decode(&[0xb8, 1, 0, 0], 0) == Decoded::Short);
+        assert!(rt; First::decode(&[0xe9, 1, 0, 0], 0) == Decoded::Short);
+    }
+}

@@ -11,8 +11,8 @@ pub mod first;
 pub mod flags;
 pub mod insn;
 pub mod items;
-pub mod law;
 pub mod kinds;
+pub mod law;
 pub mod machine;
 pub mod memory;
 pub mod start;
@@ -21,3 +21,6 @@ pub mod sys;
 pub mod table;
 pub mod thin;
 pub mod trace;
+
+#[cfg(test)]
+mod trace_tests;

@@ -78,7 +78,8 @@ fn first_registers() -> [u64; 16]
     regs
 }
 
-fn load_regions(alloc: Global, elf: &Elf) -> Result<Vec<Region>, OutOfMemory>
+/// What is loaded of a file: a region for each load. It refuses for want of memory alone.
+pub fn load_regions(alloc: Global, elf: &Elf) -> Result<Vec<Region>, OutOfMemory>
     requires { IsLoadable elf.now }
     ensures { IfOk result (λ regions. regions.items ≡ map (loaded_region elf.now.bytes) elf.now.loads) }
 {

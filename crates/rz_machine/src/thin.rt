@@ -2,9 +2,10 @@
 
 ghost use Rattle.std.specs.Prelude.{◌≡◌, ◌==◌, [], ◌∷◌, ◌↔◌, ◌<◌, ◌≤◌, ◌^◌, ◌⊎◌, length, IsTrue, IfOk, IfErr, IsErrOf};
 ghost use Rattle.std.specs.List.{list_all};
+ghost use Rattle.rz_machine.specs.Elf.{fault_of, image_of};
 ghost use Rattle.rz_machine.specs.WrittenFile.{segment_bytes};
 ghost use Rattle.rz_machine.specs.Thin.{IsThin, thin_header, thin_segment};
-ghost use Rattle.rz_machine.specs.Loaded.{IsLoadable, thin_elf, thin_load};
+ghost use Rattle.rz_machine.specs.Loaded.{IsLoadable, loaded, thin_elf, thin_load};
 ghost use Rattle.rz_machine.specs.ThinPage.{has_thin_page};
 
 use crate::elf::{Elf, ElfError, ElfFault, Load, Loads};
@@ -29,6 +30,8 @@ pub fn read_thin(alloc: Global, bytes: Bytes) -> Result<Elf, ElfError>
     ensures thin { IfOk result (λ elf. IsThin bytes) }
     ensures elf { IfOk result (λ elf. elf ≡ thin_elf bytes) }
     ensures loadable { IfOk result IsLoadable }
+    ensures accepted { IfOk result (λ elf. fault_of bytes ≡ None) }
+    ensures image { IfOk result (λ elf. loaded elf ≡ image_of bytes) }
     ensures unbuilt { IsErrOf result (ElfError.Fault ElfFault.Unbuilt) ↔ (¬ IsThin bytes) }
     ensures only { IfErr result (λ e. (e ≡ ElfError.Fault ElfFault.Unbuilt) ⊎ (e ≡ ElfError.OutOfMemory)) }
 {
@@ -129,4 +132,61 @@ fn program_header(size: u64) -> [u8; 56]
     put_u64(&mut header, 40, size);
     put_u64(&mut header, 48, 4096); // the alignment
     header
+}
+
+#[cfg(test)]
+mod tests {
+    use super::*;
+    use crate::first::First;
+    use crate::machine::{End, Outcome};
+    use crate::start::start;
+    use crate::sys::Input;
+    use std::test::Fail;
+
+    const HEADERS: [u8; 120] = [
+        0x7f, 0x45, 0x4c, 0x46, 2, 1, 1, 0, 0, 0, 0, 0, 0, 0, 0, 0, 2, 0, 0x3e, 0, 1, 0, 0, 0, 0,
+        0x10, 0x40, 0, 0, 0, 0, 0, 0x40, 0, 0, 0, 0, 0, 0, 0, 0, 0, 0, 0, 0, 0, 0, 0, 0, 0, 0, 0,
+        0x40, 0, 0x38, 0, 1, 0, 0, 0, 0, 0, 0, 0, 1, 0, 0, 0, 5, 0, 0, 0, 0, 0x10, 0, 0, 0, 0, 0,
+        0, 0, 0x10, 0x40, 0, 0, 0, 0, 0, 0, 0x10, 0x40, 0, 0, 0, 0, 0, 37, 0, 0, 0, 0, 0, 0, 0, 37,
+        0, 0, 0, 0, 0, 0, 0, 0, 0x10, 0, 0, 0, 0, 0, 0,
+    ];
+
+    // Writes "hi" and the end of a line to standard output, and exits with 0.
+    const CODE: [u8; 37] = [
+        0xb8, 1, 0, 0, 0, 0xbf, 1, 0, 0, 0, 0xbe, 0x22, 0x10, 0x40, 0, 0xba, 3, 0, 0, 0, 0x0f,
+        0x05, 0xbf, 0, 0, 0, 0, 0xb8, 0x3c, 0, 0, 0, 0x0f, 0x05, 0x68, 0x69, 0x0a,
+    ];
+
+    fn hello(alloc: Global) -> Result<Bytes, OutOfMemory> {
+        let mut file = Vec::from_slice(alloc, &HEADERS)?;
+        file.resize(4096, 0)?;
+        file.extend_from_slice(&CODE)?;
+        Ok(Bytes::from_vec(file))
+    }
+
+    #[test]
+    fn hello_writes_and_exits(rt: HostRuntime) -> Result<(), Fail> {
+        let elf = read_thin(rt.alloc(), hello(rt.alloc())?)?;
+        let input = Input::empty(rt.alloc());
+        let mut machine = start(rt.alloc(), &elf, &input)?;
+        assert_eq!(rt; machine.run::<First>(rt.alloc(), 7)?, Outcome::Running);
+        machine.step::<First>(rt.alloc())?;
+        assert_eq!(rt; machine.outcome(), Outcome::Ended(End::Exit(0)));
+        let events = machine.world.events.as_slice();
+        assert_eq!(rt; events.len(), 2);
+        assert_eq!(rt; events[0].number, 1);
+        assert_eq!(rt; events[0].args, [1, 0x40_1022, 3]);
+        assert_eq!(rt; events[0].answer, 3);
+        assert_eq!(rt; events[0].bytes.as_slice(), b"hi\n".as_slice());
+        assert_eq!(rt; events[1].number, 60);
+        Ok(())
+    }
+
+    #[test]
+    fn headers_alone_are_refused(rt: HostRuntime) -> Result<(), Fail> {
+        let refused = Err(ElfError::Fault(ElfFault::Unbuilt));
+        let file = Bytes::from_slice(rt.alloc(), &HEADERS[..63])?;
+        assert_eq!(rt; read_thin(rt.alloc(), file).map(|elf| elf.entry), refused);
+        Ok(())
+    }
 }

@@ -1,6 +1,6 @@
-use Rattle.std.proofs.Common.{◌≡◌, ◌+◌, ◌-◌, ◌≤◌, List, [], ◌∷◌, ◌++◌, length, refl}
+use Rattle.std.proofs.Common.{◌+◌, ◌-◌, [], ◌∷◌, ◌++◌, length, refl}
 use Rattle.rz_num.specs.Page.{page_up}
-use Rattle.rz_machine.specs.WrittenFile.{added_segments, kept_segments, moved, new_segments}
+use Rattle.rz_machine.specs.WrittenFile.{added_segments, moved}
 use Rattle.rz_machine.specs.Thin.{thin_segment}
 use Rattle.rz_machine.proofs.ThinLaws.{thin_long, thin_kept_by_length}
 use Rattle.rz_machine.proofs.elf_write.new_segments.Goals as goal
@@ -10,5 +10,7 @@ overflow_sub-len c = rw (c.as_slice.ensures.value) (thin_long c.args.original.no
 
 pub returns : goal.returns
 returns c =
-    let k = thin_kept_by_length c.args.original.now c.requires.thin in
-    rw (k, c.added_segments.ensures, c.moved.ensures, c.thin_segment.ensures, c.page_up.ensures, c.as_slice.ensures.value) refl
+    let x = c.args.original.now in
+    let k = thin_kept_by_length x c.requires.thin in
+    rw (k, c.added_segments.ensures, c.moved.ensures, c.thin_segment.ensures, c.page_up.ensures, c.as_slice.ensures.value)
+    (refl {a = added_segments (4096 + page_up (length x)) c.args.parts.now ++ moved (thin_segment (length x - 4096)) ∷ []})

@@ -1,5 +1,5 @@
 use Rattle.std.proofs.Common.{[], ◌∷◌, refl, arith}
-use Rattle.rz_machine.specs.Thin.{IsThin, thin_file}
+use Rattle.rz_machine.specs.Thin.{thin_file}
 use Rattle.rz_machine.proofs.elf_write.tests.thin_file.Goals as goal
 
 pub returns : goal.returns

@@ -1,0 +1,163 @@
+-- The parts of a new file hold what they are to hold.
+use Rattle.std.proofs.Common.{◌≡◌, ℕ, ◌+◌, ◌-◌, ◌*◌, ◌^◌, ◌<◌, ◌≤◌, ◌==◌, true, List, ◌++◌, length, get_or, replicate, refl, sym, ap, ap₂, ◌∙◌, subst, arith, eq-eqb}
+use mathlib.Core.Path.{fun_ext}
+use Rattle.std.specs.List.{All}
+use Rattle.std.proofs.lemmas.List.Folds.{list_any_at}
+use Rattle.rz_machine.specs.declared.items.Label.{Label}
+use Rattle.rz_machine.specs.declared.items.Label.TheVariants as label
+use Rattle.rz_machine.specs.declared.items.Fragment.{Fragment}
+use Rattle.rz_machine.specs.declared.trace.Record.{Record}
+use Rattle.rz_machine.specs.Memory.{zeros}
+use Rattle.rz_machine.specs.Elf.{Image}
+use Rattle.rz_machine.specs.First.{decode_first}
+use Rattle.rz_machine.specs.Fragments.{fragments_bytes, address_of}
+use Rattle.rz_machine.specs.Added.{Added, added, tables_size, code_size, stubs_size, page_floor, lowest, parts_below, sites, site_edges, all_stubs, filled}
+use Rattle.rz_machine.specs.declared.elf_write.Parts.{Parts}
+use Rattle.rz_machine.specs.WrittenFile.{IsAdded}
+use Rattle.rz_machine.specs.Rewritable.{IsRewritable, IsAscending}
+use Rattle.rz_machine.specs.PlainImage.{IsPlainImage}
+use Rattle.rz_machine.specs.Rewritten.{HasRoom, IsRewritten, fragments_of, place_of, code_of_nodes}
+use Rattle.rz_machine.proofs.AddedLaws.{sites-first, site_edges-first}
+use Rattle.rz_machine.proofs.Emitted.{length-fragments_bytes}
+use Rattle.rz_machine.proofs.Parts.{length-filled, length-all_stubs}
+use Rattle.rz_machine.proofs.PlainNodes.{stands}
+use Rattle.rz_machine.proofs.RewrittenLaws.{code_room, stubs_room, stop_low, place_in_code}
+use Rattle.rz_machine.proofs.ThinLaws.{length-zeros}
+use Rattle.rz_core.specs.declared.added.AddedRange.{AddedRange}
+use Rattle.rz_core.specs.NewParts.{range_of, new_parts_of}
+use Rattle.rz_core.specs.Places.{Placing, address_in, nodes_of, total_len, IsPlacingOf}
+use Rattle.rz_core.proofs.FragmentLaws.{nodes_of_fragments, length-fragments, total_len-short}
+
+module _ (x : Image) (kept : Record) (plain : IsPlainImage x) (can : IsRewritable decode_first x kept) (room : HasRoom decode_first x kept) where
+  abbrev a : Added
+  a = added decode_first x kept
+
+  abbrev n : ℕ
+  n = length kept.nodes
+
+  abbrev frags : List Fragment
+  frags = fragments_of decode_first x kept
+
+  -- the first table has no sites
+  pub range_is : parts_below (tables_size 0 0) (code_size n 0 0) (stubs_size n) (page_floor (lowest x.loads)) ≡ a
+  range_is =
+      ap₂ (λ (s : List ℕ) (e : List (ℕ × ℕ)). parts_below (tables_size (length s) (length e)) (code_size n (length s) (length e)) (stubs_size n) (page_floor (lowest x.loads)))
+      (sym (sites-first x.loads kept.nodes)) (sym (site_edges-first x.loads kept.edges))
+
+  -- each node is low
+  pub nodes_low : All (λ b. b < 2 ^ 31) kept.nodes
+  nodes_low k d lt =
+      let b = get_or kept.nodes k d in
+      let node = can.nodes b (list_any_at (λ c. c == b) kept.nodes k d lt (eq-eqb b b refl)) in
+      let low = (stands x plain b node.insn node.len node.spelled).low in
+      omega (arith, low)
+
+  pub stop_is_low : page_floor (lowest x.loads) < 2 ^ 31
+  stop_is_low = let h = stop_low decode_first x kept room plain in omega (arith, h)
+
+  -- what stands in such a range
+  pub record Fits (fs : List Fragment) (r : AddedRange) : Type 0 where
+    pub ascending : IsAscending (nodes_of fs)
+    pub tables : r.tables ≤ r.code
+    pub code : r.code + total_len fs ≤ r.stubs
+    pub stubs : r.stubs + 24 * length fs ≤ r.stop
+    pub low : r.stop < 2 ^ 31
+
+  pub fits : (fs : List Fragment) (r : AddedRange) → fs ≡ frags → range_of r ≡ a → Fits fs r
+  fits fs r e f =
+      let cr = code_room decode_first x kept room in
+      let sr = stubs_room decode_first x kept room in
+      let sl = stop_low decode_first x kept room plain in
+      let short = total_len-short decode_first x.loads kept.edges kept.nodes in
+      let many = length-fragments decode_first x.loads kept.edges kept.nodes in
+      let total : total_len fs ≡ total_len frags = ap total_len e in
+      let count : length fs ≡ length frags = ap length e in
+      let code : r.code ≡ a.code = ap (λ (b : Added). b.code) f in
+      let tables : r.tables ≡ a.tables = ap (λ (b : Added). b.tables) f in
+      let stubs : r.stubs ≡ a.stubs = ap (λ (b : Added). b.stubs) f in
+      let stop : r.stop ≡ a.stop = ap (λ (b : Added). b.stop) f in
+      record {
+        ascending = subst (λ l. IsAscending l) (sym (ap nodes_of e ∙ nodes_of_fragments decode_first x.loads kept.edges kept.nodes)) can.ascending;
+        tables = omega (arith, code, tables);
+        code = omega (arith, cr, short, total, code, stubs);
+        stubs = omega (arith, sr, many, count, stubs, stop);
+        low = omega (arith, sl, stop);
+      }
+
+  -- parts that were laid out and emitted so
+  pub record AreEmitted (fs : List Fragment) (nodes : List ℕ) (r : AddedRange) (p : Placing) (parts : Parts) (entry : ℕ) : Type 0 where
+    pub frags_are : fs ≡ frags
+    pub nodes_are : nodes ≡ kept.nodes
+    pub range_as : range_of r ≡ a
+    pub placing : IsPlacingOf p fs r.code r.stubs
+    pub base : parts.base ≡ r.scratch
+    pub tables : parts.tables ≡ zeros (r.code - r.tables)
+    pub code : parts.code ≡ filled (r.stubs - r.code) (fragments_bytes (address_in p) r.code fs)
+    pub stubs : parts.stubs ≡ filled (r.stop - r.stubs) (all_stubs nodes)
+    pub begins : entry ≡ address_in p (label.Place x.entry)
+
+  module _ (fs : List Fragment) (nodes : List ℕ) (r : AddedRange) (p : Placing) (parts : Parts) (entry : ℕ) (are : AreEmitted fs nodes r p parts entry) where
+    code_is : r.code ≡ a.code
+    code_is = ap (λ (b : Added). b.code) are.range_as
+
+    stubs_is : r.stubs ≡ a.stubs
+    stubs_is = ap (λ (b : Added). b.stubs) are.range_as
+
+    -- each label has the address that it is to have
+    labels : (to : Label) → address_in p to ≡ address_of frags kept.nodes a to
+    labels to =
+        are.placing a (sym code_is) (sym stubs_is) to
+        ∙ ap (λ l. address_of l (nodes_of l) a to) are.frags_are
+        ∙ ap (λ l. address_of frags l a to) (nodes_of_fragments decode_first x.loads kept.edges kept.nodes)
+
+    bytes : fragments_bytes (address_in p) r.code fs ≡ code_of_nodes decode_first x kept
+    bytes =
+        ap (λ g. fragments_bytes g r.code fs) (fun_ext labels)
+        ∙ ap (λ from. fragments_bytes (address_of frags kept.nodes a) from fs) code_is
+        ∙ ap (λ l. fragments_bytes (address_of frags kept.nodes a) a.code l) are.frags_are
+
+    tables_hold : parts.tables ≡ zeros (a.code - a.tables)
+    tables_hold = are.tables ∙ ap (λ (b : Added). zeros (b.code - b.tables)) are.range_as
+
+    code_holds : parts.code ≡ filled (a.stubs - a.code) (code_of_nodes decode_first x kept)
+    code_holds = are.code ∙ ap₂ filled (ap (λ (b : Added). b.stubs - b.code) are.range_as) bytes
+
+    stubs_hold : parts.stubs ≡ filled (a.stop - a.stubs) (all_stubs kept.nodes)
+    stubs_hold = are.stubs ∙ ap₂ (λ k l. filled k (all_stubs l)) (ap (λ (b : Added). b.stop - b.stubs) are.range_as) are.nodes_are
+
+    base_is : parts.base ≡ a.scratch
+    base_is = are.base ∙ ap (λ (b : Added). b.scratch) are.range_as
+
+    pub parts_are : parts ≡ new_parts_of decode_first x kept
+    parts_are =
+        let front : parts ≡ record { base = a.scratch; tables = zeros (a.code - a.tables); code = parts.code; stubs = parts.stubs } =
+            ap₂ (λ b t. let q : Parts = record { base = b; tables = t; code = parts.code; stubs = parts.stubs } in q) base_is tables_hold in
+        front ∙ ap₂ (λ k s. let q : Parts = record { base = a.scratch; tables = zeros (a.code - a.tables); code = k; stubs = s } in q) code_holds stubs_hold
+
+    pub begins_is : entry ≡ place_of decode_first x kept x.entry
+    begins_is = are.begins ∙ labels (label.Place x.entry)
+
+    code_long : length (code_of_nodes decode_first x kept) ≤ a.stubs - a.code
+    code_long =
+        let long = length-fragments_bytes (address_of frags kept.nodes a) a.code frags in
+        let short = total_len-short decode_first x.loads kept.edges kept.nodes in
+        let cr = code_room decode_first x kept room in
+        omega (arith, long, short, cr)
+
+    pub are_rewritten : IsRewritten decode_first x kept parts entry
+    are_rewritten =
+        let inside = place_in_code decode_first x kept room x.entry can.entry in
+        record {
+          parts_added =
+              record {
+                base = base_is;
+                tables = ap length tables_hold ∙ length-zeros (a.code - a.tables);
+                code = ap length code_holds ∙ length-filled (a.stubs - a.code) (code_of_nodes decode_first x kept) code_long;
+                stubs = stubs_hold;
+                entry_from = subst (λ e. a.code ≤ e) (sym begins_is) inside.0;
+                entry_below = subst (λ e. e < a.stubs) (sym begins_is) inside.1;
+              };
+          fill = replicate (a.stubs - a.code - length (code_of_nodes decode_first x kept)) 0xcc;
+          code = code_holds;
+          begins = begins_is;
+        }

@@ -1,0 +1,53 @@
+-- The new file of a thin file.
+use Rattle.std.proofs.Common.{◌≡◌, ℕ, ◌+◌, ◌≤◌, List, length, sym, ap, ◌∙◌, subst, arith}
+use Rattle.rz_machine.specs.declared.elf.Elf.{Elf}
+use Rattle.rz_machine.specs.declared.elf_write.Parts.{Parts}
+use Rattle.rz_machine.specs.declared.trace.Record.{Record}
+use Rattle.rz_machine.specs.Elf.{Image, image_of}
+use Rattle.rz_machine.specs.First.{decode_first}
+use Rattle.rz_machine.specs.TableLaws.{AreBytes}
+use Rattle.rz_machine.specs.Added.{Added, added}
+use Rattle.rz_machine.specs.Keeps.{Keeps}
+use Rattle.rz_machine.specs.Loaded.{loaded, thin_elf}
+use Rattle.rz_machine.specs.PlainImage.{IsPlainImage}
+use Rattle.rz_machine.specs.Rewritable.{IsRewritable}
+use Rattle.rz_machine.specs.Rewritten.{HasRoom, IsRewritten}
+use Rattle.rz_machine.specs.Thin.{IsThin, thin_base}
+use Rattle.rz_machine.specs.WrittenFile.{written_file, Inert}
+use Rattle.rz_machine.proofs.AddedLaws.{added-thin}
+use Rattle.rz_machine.proofs.PlainAccepted.{accepted_plain}
+use Rattle.rz_machine.proofs.RewrittenLaws.{lie}
+use Rattle.rz_machine.proofs.ThinKept.{thin_room, thin_kept}
+use Rattle.rz_machine.proofs.ThinLoads.{thin_fault, loaded-thin_elf}
+
+module _ (elf : Elf) (kept : Record) (thin : IsThin elf.bytes) (bytes : AreBytes elf.bytes) (read : elf ≡ thin_elf elf.bytes) (can : IsRewritable decode_first (loaded elf) kept) where
+  image : loaded elf ≡ image_of elf.bytes
+  image = ap loaded read ∙ loaded-thin_elf elf.bytes thin
+
+  can_image : IsRewritable decode_first (image_of elf.bytes) kept
+  can_image = subst (λ i. IsRewritable decode_first i kept) image can
+
+  -- what is loaded of it is plain
+  pub plain : IsPlainImage (loaded elf)
+  plain = subst IsPlainImage (sym image) (accepted_plain elf.bytes bytes (thin_fault elf.bytes thin))
+
+  -- there is room below its code
+  pub room : HasRoom decode_first (loaded elf) kept
+  room = subst (λ i. HasRoom decode_first i kept) (sym image) (thin_room elf.bytes kept thin bytes can_image).2
+
+  module _ (parts : Parts) (entry : ℕ) (are : IsRewritten decode_first (loaded elf) kept parts entry) where
+    are_image : IsRewritten decode_first (image_of elf.bytes) kept parts entry
+    are_image = subst (λ i. IsRewritten decode_first i kept parts entry) image are
+
+    -- the parts end where the code begins
+    pub below : parts.base + 4096 + length parts.tables + length parts.code + length parts.stubs ≤ thin_base
+    below =
+        let room_image = (thin_room elf.bytes kept thin bytes can_image).2 in
+        let ends = (lie decode_first (image_of elf.bytes) kept room_image parts entry are_image.parts_added).stop in
+        let at : (added decode_first (image_of elf.bytes) kept).stop ≡ thin_base =
+            ap (λ y. (added decode_first (image_of y) kept).stop) thin.file ∙ ap (λ (b : Added). b.stop) (added-thin thin.code kept thin.some thin.few) in
+        omega (arith, ends, at)
+
+    -- the new file keeps the runs, and is inert
+    pub kept_file : (w : List ℕ) → w ≡ written_file elf.bytes parts entry → Keeps decode_first elf.bytes w kept × Inert decode_first elf.bytes w kept
+    kept_file w written = thin_kept elf.bytes w kept parts entry thin bytes can_image are_image written

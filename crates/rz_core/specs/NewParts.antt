@@ -1,0 +1,26 @@
+-- What stands in the parts of a new file.
+use Rattle.std.specs.Prelude.{ℕ, ◌-◌}
+use Rattle.rz_machine.specs.declared.trace.Record.{Record}
+use Rattle.rz_machine.specs.Memory.{zeros}
+use Rattle.rz_machine.specs.Elf.{Image}
+use Rattle.rz_machine.specs.Insn.{Decoder}
+use Rattle.rz_machine.specs.Added.{Added, added, filled}
+use Rattle.rz_machine.specs.declared.elf_write.Parts.{Parts}
+use Rattle.rz_machine.specs.WrittenFile.{stubs_part}
+use Rattle.rz_machine.specs.Rewritten.{code_of_nodes}
+use Rattle.rz_core.specs.declared.added.AddedRange.{AddedRange}
+
+-- where the parts lie
+abbrev pub range_of : AddedRange → Added
+range_of r = record { scratch = r.scratch; tables = r.tables; code = r.code; stubs = r.stubs; stop = r.stop }
+
+-- the parts of the new file: the tables are zeros, the code is the fragments with INT3 up to its size
+abbrev pub new_parts_of : Decoder → Image → Record → Parts
+new_parts_of dec x kept =
+    let a = added dec x kept in
+    record {
+      base = a.scratch;
+      tables = zeros (a.code - a.tables);
+      code = filled (a.stubs - a.code) (code_of_nodes dec x kept);
+      stubs = stubs_part a kept.nodes;
+    }

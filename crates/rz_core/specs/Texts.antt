@@ -1,0 +1,66 @@
+-- The texts that the tool puts: reports and refusals, each ended by one line feed.
+use Rattle.std.specs.Prelude.{ℕ, false, List, [], ◌∷◌, ◌++◌, codes, decimal, Option, Some, None}
+use Rattle.std.specs.Fmt.{digits}
+use Rattle.rz_machine.specs.declared.elf.ElfFault.{ElfFault}
+use Rattle.rz_machine.specs.declared.elf.ElfFault.TheVariants as fault
+use Rattle.rz_core.specs.declared.status.Status.{Status}
+use Rattle.rz_core.specs.declared.status.Status.TheVariants as status
+use Rattle.rz_core.specs.declared.status.Target.{Target}
+use Rattle.rz_core.specs.declared.status.Target.TheVariants as target
+
+-- a hexadecimal number: 0x and lower-case digits
+abbrev pub hex_text : ℕ → List ℕ
+hex_text n = codes "0x" ++ digits 16 false n
+
+-- the report of a debloating: where the added range begins, and how many edges, instructions, site edges and sites are kept
+abbrev pub report_text : ℕ → ℕ → ℕ → ℕ → ℕ → List ℕ
+report_text added edges instructions site_edges sites =
+    codes "{\"added\":\"" ++ (hex_text added
+    ++ (codes "\",\"edges\":" ++ (decimal edges
+    ++ (codes ",\"instructions\":" ++ (decimal instructions
+    ++ (codes ",\"site_edges\":" ++ (decimal site_edges
+    ++ (codes ",\"sites\":" ++ (decimal sites ++ codes "}\n")))))))))
+
+abbrev numbered : List ℕ → ℕ → List ℕ
+numbered name i = name ++ (32 ∷ decimal i)
+
+-- the printed name of a fault, with the number of its header
+abbrev pub fault_text : ElfFault → List ℕ
+fault_text fault.Long = codes "Long"
+fault_text fault.Short = codes "Short"
+fault_text fault.Magic = codes "Magic"
+fault_text fault.Class = codes "Class"
+fault_text fault.Data = codes "Data"
+fault_text fault.Version = codes "Version"
+fault_text fault.FileType = codes "Type"
+fault_text fault.Machine = codes "Machine"
+fault_text fault.HeaderSize = codes "HeaderSize"
+fault_text fault.EntrySize = codes "EntrySize"
+fault_text fault.Count = codes "Count"
+fault_text fault.TableRange = codes "TableRange"
+fault_text (fault.Dynamic i) = numbered (codes "Dynamic") i
+fault_text (fault.StackCode i) = numbered (codes "StackCode") i
+fault_text (fault.Flags i) = numbered (codes "Flags") i
+fault_text (fault.WritableCode i) = numbered (codes "WritableCode") i
+fault_text (fault.SizeOrder i) = numbered (codes "SizeOrder") i
+fault_text (fault.FileRange i) = numbered (codes "FileRange") i
+fault_text (fault.Align i) = numbered (codes "Align") i
+fault_text (fault.Address i) = numbered (codes "Address") i
+fault_text (fault.Order i) = numbered (codes "Order") i
+fault_text (fault.SharedPage i) = numbered (codes "SharedPage") i
+fault_text fault.TotalSize = codes "TotalSize"
+fault_text fault.NoLoad = codes "NoLoad"
+fault_text fault.Entry = codes "Entry"
+fault_text fault.Unbuilt = codes "Unbuilt"
+
+-- the text of a refusal; the other answers have none of their own
+abbrev pub refusal_text : Status → List ℕ
+refusal_text status.Usage = codes "usage\n"
+refusal_text (status.Refused file why) = codes "refused " ++ (file ++ (32 ∷ (fault_text why ++ 10 ∷ [])))
+refusal_text (status.BadInput input line) = codes "bad input " ++ (decimal input ++ (32 ∷ (decimal line ++ 10 ∷ [])))
+refusal_text (status.LeftCode input address) = codes "left code " ++ (decimal input ++ (32 ∷ (hex_text address ++ 10 ∷ [])))
+refusal_text (status.ReadFault file) = codes "read fault " ++ (file ++ 10 ∷ [])
+refusal_text (status.WriteFault target.File) = codes "write fault file\n"
+refusal_text (status.WriteFault target.Text) = []
+refusal_text status.Ok = []
+refusal_text status.OutOfMemory = []

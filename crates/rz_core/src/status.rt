@@ -1,0 +1,51 @@
+//! What the tool answers.
+
+ghost use Rattle.std.specs.Prelude.{◌≡◌};
+ghost use Rattle.rz_core.specs.Number.{number_of};
+
+use rz_machine::elf::ElfFault;
+use rz_num::Text;
+use thiserror::Error;
+
+/// What could not be written.
+#[derive(Clone, Copy, PartialEq, Eq, Debug, Error)]
+pub enum Target {
+    #[error("file")]
+    File,
+    #[error("text")]
+    Text,
+}
+
+/// How a command ended. Inputs and lines count from 1; an address is in bytes.
+#[derive(Drop)]
+pub enum Status {
+    Ok,
+    /// The words are no form.
+    Usage,
+    /// A file read as an executable has this fault.
+    Refused { file: Text, fault: ElfFault },
+    /// An input file breaks its grammar at this line.
+    BadInput { input: u64, line: u64 },
+    /// The run of an input leaves the code at this address.
+    LeftCode { input: u64, address: u64 },
+    /// A file could not be read.
+    ReadFault { file: Text },
+    WriteFault(Target),
+    OutOfMemory,
+}
+
+/// The number of a status, which the program ends with.
+pub fn number(status: &Status) -> u8
+    ensures { result ≡ number_of status.now }
+{
+    match status {
+        Status::Ok => 0,
+        Status::Usage => 1,
+        Status::Refused { .. } => 2,
+        Status::BadInput { .. } => 3,
+        Status::LeftCode { .. } => 5,
+        Status::ReadFault { .. } => 8,
+        Status::WriteFault(_) => 9,
+        Status::OutOfMemory => 12,
+    }
+}

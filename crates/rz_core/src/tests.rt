@@ -1,0 +1,156 @@
+// Worked command lines, over stores and sinks in memory.
+
+ghost use Rattle.std.specs.Prelude.{◌≡◌, ◌≤◌, ◌+◌, length, IfOk};
+ghost use Rattle.rz_machine.specs.Loaded.{IsLoadable};
+
+use crate::status::number;
+use crate::tool::run_tool;
+use rz_machine::elf::{Elf, Load, Loads};
+use rz_machine::first::First;
+use rz_machine::machine::{End, Machine};
+use rz_machine::memory::Perm;
+use rz_machine::start::start;
+use rz_machine::sys::Input;
+use rz_machine::thin::read_thin;
+use rz_num::{Bytes, OutOfMemory, Text, put_u64};
+use rz_outside::{MemSink, MemStore, PlainSink, PlainStore, has_distinct_names};
+use std::alloc::Global;
+use std::process::Abort;
+use std::test::Fail;
+
+// The headers of a thin file, with no sizes.
+const HEADERS: [u8; 120] = [
+    0x7f, b'E', b'L', b'F', 2, 1, 1, 0, 0, 0, 0, 0, 0, 0, 0, 0, 2, 0, 62, 0, 1, 0, 0, 0, 0, 0x10, 0x40, 0,
+    0, 0, 0, 0, 64, 0, 0, 0, 0, 0, 0, 0, 0, 0, 0, 0, 0, 0, 0, 0, 0, 0, 0, 0, 64, 0, 56, 0, 1, 0, 0, 0, 0, 0,
+    0, 0, 1, 0, 0, 0, 5, 0, 0, 0, 0, 0x10, 0, 0, 0, 0, 0, 0, 0, 0x10, 0x40, 0, 0, 0, 0, 0, 0, 0x10, 0x40, 0,
+    0, 0, 0, 0, 0, 0, 0, 0, 0, 0, 0, 0, 0, 0, 0, 0, 0, 0, 0, 0, 0, 0x10, 0, 0, 0, 0, 0, 0,
+];
+
+// Writes `hi` and a line's end, and exits.
+const GREETING: [u8; 37] = [
+    0xb8, 1, 0, 0, 0, 0xbf, 1, 0, 0, 0, 0xbe, 0x22, 0x10, 0x40, 0, 0xba, 3, 0, 0, 0, 0x0f, 0x05, 0xbf, 0, 0, 0,
+    0, 0xb8, 0x3c, 0, 0, 0, 0x0f, 0x05, b'h', b'i', b'\n',
+];
+
+const REPORT: &[u8] = b"{\"added\":\"0x3fd000\",\"edges\":7,\"instructions\":8,\"site_edges\":0,\"sites\":0}\n";
+
+// The thin file of a code.
+fn thin(alloc: Global, code: &[u8]) -> Result<Bytes, OutOfMemory> {
+    let mut headers = HEADERS;
+    put_u64(&mut headers, 96, code.len() as u64);
+    put_u64(&mut headers, 104, code.len() as u64);
+    let mut bytes = Bytes::from_slice(alloc, &headers)?;
+    bytes.push_all(&[0; 3976])?;
+    bytes.push_all(code)?;
+    Ok(bytes)
+}
+
+// The words of a line.
+fn words(alloc: Global, line: &str) -> Result<Vec<Text>, OutOfMemory> {
+    let mut words = Vec::new(alloc);
+    for word in line.split_whitespace() {
+        words.push(Text::from_slice(alloc, word)?)?;
+    }
+    Ok(words)
+}
+
+// `e` and `i`.
+fn files(alloc: Global, e: Bytes, i: &[u8]) -> Result<Vec<(Text, Bytes)>, OutOfMemory> {
+    let mut files = Vec::new(alloc);
+    files.push((Text::from_slice(alloc, "e")?, e))?;
+    files.push((Text::from_slice(alloc, "i")?, Bytes::from_slice(alloc, i)?))?;
+    Ok(files)
+}
+
+// The status and the text for a line of words, where the listed calls of the store fail; and what `w` holds.
+fn answer(
+    rt: &impl Abort,
+    alloc: Global,
+    line: &str,
+    e: Bytes,
+    i: &[u8],
+    failing: Vec<u64>,
+) -> Result<(u8, Bytes, Bytes), OutOfMemory> {
+    let files = files(alloc, e, i)?;
+    assert!(rt; has_distinct_names(files.as_slice()));
+    let mut store = MemStore::new(alloc, files, failing)?;
+    let mut out = MemSink::new(alloc, Vec::new(alloc))?;
+    let status = run_tool(alloc, &words(alloc, line)?, &mut store, &mut out);
+    let text = Bytes::from_slice(alloc, out.as_slice())?;
+    let written = Bytes::from_slice(alloc, store.get("w").unwrap_or(&[]))?;
+    Ok((number(&status), text, written))
+}
+
+// The written file of the greeting, by its five loads and its entry.
+fn greeting_elf(rt: &impl Abort, alloc: Global, bytes: Bytes) -> Result<Elf, OutOfMemory>
+    ensures { IfOk result IsLoadable }
+{
+    assert!(rt; bytes.as_slice().len() == 24_576);
+    let none = Perm {
+        read: true,
+        write: true,
+        execute: false,
+    };
+    let code = Perm {
+        read: true,
+        write: false,
+        execute: true,
+    };
+    let data = Perm {
+        read: true,
+        write: false,
+        execute: false,
+    };
+    let mut loads = Vec::new(alloc);
+    loads.push(load(0x3f_d000, 4096, 0, 0, none, 0))?;
+    loads.push(load(0x3f_e000, 4096, 12_288, 4096, data, 1))?;
+    loads.push(load(0x3f_f000, 4096, 16_384, 4096, code, 2))?;
+    loads.push(load(0x40_0000, 4096, 20_480, 4096, code, 3))?;
+    loads.push(load(0x40_1000, 37, 8192, 37, data, 4))?;
+    Ok(Elf {
+        bytes,
+        loads: Loads::from_vec(loads),
+        entry: 0x3f_f000,
+        first_break: 0x40_2000,
+    })
+}
+
+fn load(at: u64, size: u64, file_at: u64, file_size: u64, perm: Perm, index: u32) -> Load
+    ensures { result ≡ record { at = at; size = size; file_at = file_at; file_size = file_size; align = 4096; perm = perm; index = index } }
+{
+    Load {
+        at,
+        size,
+        file_at,
+        file_size,
+        align: 4096,
+        perm,
+        index,
+    }
+}
+
+#[test]
+fn writes_hi(rt: HostRuntime) -> Result<(), Fail> {
+    let alloc = rt.alloc();
+    let e = thin(alloc, &GREETING)?;
+    let line = "debloat e - exact 1000 w i";
+    let (status, text, w) = answer(&rt, alloc, line, e, &[], Vec::new(alloc))?;
+    assert_eq!(rt; status, 0);
+    assert_eq!(rt; text.as_slice(), REPORT);
+    let old = read_thin(alloc, thin(alloc, &GREETING)?)?;
+    let new = greeting_elf(&rt, alloc, w)?;
+    let mut x = start(alloc, &old, &Input::empty(alloc))?;
+    let mut y = start(alloc, &new, &Input::empty(alloc))?;
+    x.run::<First>(alloc, 100)?;
+    y.run::<First>(alloc, 100)?;
+    for machine in [&x, &y] {
+        assert!(rt; machine.end == Some(End::Exit(0)));
+        let events = machine.world.events.as_slice();
+        assert_eq!(rt; events.len(), 2);
+        assert_eq!(rt; events[0].number, 1);
+        assert_eq!(rt; events[0].answer, 3);
+        assert_eq!(rt; events[0].bytes.as_slice(), b"hi\n".as_slice());
+        assert_eq!(rt; events[1].number, 60);
+    }
+    Ok(())
+}

@@ -1,0 +1,81 @@
+//! The texts that the tool puts.
+
+ghost use Rattle.std.specs.Prelude.{◌≡◌, string_bytes, IfOk, List, ℕ};
+ghost use Rattle.rz_core.specs.Texts.{report_text, fault_text as text_of_fault, refusal_text as text_of_refusal};
+
+use crate::status::{Status, Target};
+use rz_machine::elf::ElfFault;
+use std::alloc::{AllocError, Global};
+
+/// The report of a debloating.
+pub fn report(
+    alloc: Global,
+    added: u64,
+    edges: u64,
+    instructions: u64,
+    site_edges: u64,
+    sites: u64,
+) -> Result<String, AllocError>
+    ensures { IfOk result (λ s. string_bytes s ≡ report_text added edges instructions site_edges sites) }
+{
+    format!(in alloc;
+        "{{\"added\":\"0x{added:x}\",\"edges\":{edges},\"instructions\":{instructions},\"site_edges\":{site_edges},\"sites\":{sites}}}\n"
+    )
+}
+
+fn fault_text(alloc: Global, fault: ElfFault) -> Result<String, AllocError>
+    ensures { IfOk result (λ s. string_bytes s ≡ text_of_fault fault) }
+{
+    match fault {
+        ElfFault::Long => format!(in alloc; "Long"),
+        ElfFault::Short => format!(in alloc; "Short"),
+        ElfFault::Magic => format!(in alloc; "Magic"),
+        ElfFault::Class => format!(in alloc; "Class"),
+        ElfFault::Data => format!(in alloc; "Data"),
+        ElfFault::Version => format!(in alloc; "Version"),
+        ElfFault::FileType => format!(in alloc; "Type"),
+        ElfFault::Machine => format!(in alloc; "Machine"),
+        ElfFault::HeaderSize => format!(in alloc; "HeaderSize"),
+        ElfFault::EntrySize => format!(in alloc; "EntrySize"),
+        ElfFault::Count => format!(in alloc; "Count"),
+        ElfFault::TableRange => format!(in alloc; "TableRange"),
+        ElfFault::Dynamic(i) => format!(in alloc; "Dynamic {i}"),
+        ElfFault::StackCode(i) => format!(in alloc; "StackCode {i}"),
+        ElfFault::Flags(i) => format!(in alloc; "Flags {i}"),
+        ElfFault::WritableCode(i) => format!(in alloc; "WritableCode {i}"),
+        ElfFault::SizeOrder(i) => format!(in alloc; "SizeOrder {i}"),
+        ElfFault::FileRange(i) => format!(in alloc; "FileRange {i}"),
+        ElfFault::Align(i) => format!(in alloc; "Align {i}"),
+        ElfFault::Address(i) => format!(in alloc; "Address {i}"),
+        ElfFault::Order(i) => format!(in alloc; "Order {i}"),
+        ElfFault::SharedPage(i) => format!(in alloc; "SharedPage {i}"),
+        ElfFault::TotalSize => format!(in alloc; "TotalSize"),
+        ElfFault::NoLoad => format!(in alloc; "NoLoad"),
+        ElfFault::Entry => format!(in alloc; "Entry"),
+        ElfFault::Unbuilt => format!(in alloc; "Unbuilt"),
+    }
+}
+
+/// The text of a refusal; empty for the answers that have none.
+pub fn refusal(alloc: Global, status: &Status) -> Result<String, AllocError>
+    ensures { IfOk result (λ s. string_bytes s ≡ text_of_refusal status.now) }
+{
+    match status {
+        Status::Usage => format!(in alloc; "usage\n"),
+        Status::Refused { file, fault } => {
+            let fault = fault_text(alloc, *fault)?;
+            let file = file.as_slice();
+            format!(in alloc; "refused {file} {fault}\n")
+        }
+        Status::BadInput { input, line } => format!(in alloc; "bad input {input} {line}\n"),
+        Status::LeftCode { input, address } => format!(in alloc; "left code {input} 0x{address:x}\n"),
+        Status::ReadFault { file } => {
+            let file = file.as_slice();
+            format!(in alloc; "read fault {file}\n")
+        }
+        Status::WriteFault(Target::File) => format!(in alloc; "write fault file\n"),
+        Status::WriteFault(Target::Text) | Status::Ok | Status::OutOfMemory => {
+            format!(in alloc; "")
+        }
+    }
+}

@@ -1,0 +1,92 @@
+//! The top call: a command line over a store of files and a sink of text.
+
+ghost use Rattle.std.specs.Prelude.{◌≡◌, ◌≢◌, ◌≤◌, ◌⊎◌, ℕ, List, [], Some, None, Option, IfOk, IfErr, OnOk, OnErr, IsTrue};
+ghost use Rattle.rz_outside.specs.StoreAnswers.{SameFiles, SameOthers};
+ghost use Rattle.rz_outside.specs.SinkAnswers.{appended};
+ghost use Rattle.rz_core.specs.Words.{form_of};
+ghost use Rattle.rz_core.specs.Texts.{refusal_text};
+ghost use Rattle.rz_core.specs.Commands.{words_of};
+ghost use Rattle.rz_core.specs.Exact.{AnswersExactly};
+ghost use Rattle.rz_core.specs.Causes.{CauseOf, HasCause, FilesAfterForm, FilesAfter, SinkAfter, PutAfter, RefusedAfter};
+
+use crate::debloat::debloat;
+use crate::status::{Status, Target};
+use crate::texts::refusal;
+use crate::words::{Debloat, form};
+use rz_num::{Bytes, Text};
+use rz_outside::{PutErr, Sink, Store};
+use std::alloc::Global;
+
+// Puts a command's text.
+fn put_text<K: Sink>(out: &mut K, text: &Bytes) -> Status
+    ensures count { K.faults out.old ≤ K.faults out.new }
+    ensures after { PutAfter text.now (record { old = K.written out.old; new = K.written out.new; before = K.faults out.old; now = K.faults out.new }) result }
+{
+    match out.put(text) {
+        Ok(()) => Status::Ok,
+        Err(PutErr::Failed) => Status::WriteFault(Target::Text),
+        Err(PutErr::OutOfMemory) => Status::OutOfMemory,
+    }
+}
+
+// Puts a refusal's text. A failing put doesn't change the status.
+fn refuse<K: Sink>(alloc: Global, out: &mut K, status: Status) -> Status
+    ensures count { K.faults out.old ≤ K.faults out.new }
+    ensures after { RefusedAfter status (record { old = K.written out.old; new = K.written out.new; before = K.faults out.old; now = K.faults out.new }) result }
+{
+    if matches!(&status, Status::OutOfMemory) {
+        return status;
+    }
+    let Ok(text) = refusal(alloc, &status) else {
+        return Status::OutOfMemory;
+    };
+    let Ok(bytes) = Bytes::from_slice(alloc, text.as_bytes()) else {
+        return Status::OutOfMemory;
+    };
+    match out.put(&bytes) {
+        Ok(()) | Err(PutErr::Failed) => status,
+        Err(PutErr::OutOfMemory) => Status::OutOfMemory,
+    }
+}
+
+// The command `debloat`, up to its text.
+fn run_debloat<S: Store, K: Sink>(
+    alloc: Global,
+    d: &Debloat<'_>,
+    store: &mut S,
+    out: &mut K,
+) -> Status
+    requires { 1 ≤ d.now.limit }
+    ensures telling { S.told store.new ≡ S.told store.old }
+    ensures store_count { S.faults store.old ≤ S.faults store.new }
+    ensures sink_count { K.faults out.old ≤ K.faults out.new }
+    ensures cause { CauseOf (words_of d.now) (record { told = S.told store.old; old = S.files store.old; new = S.files store.new; before = S.faults store.old; now = S.faults store.new; failed = S.failed_name store.new }) (record { old = K.written out.old; new = K.written out.new; before = K.faults out.old; now = K.faults out.new }) result }
+    ensures files { FilesAfterForm (words_of d.now) (record { told = S.told store.old; old = S.files store.old; new = S.files store.new; before = S.faults store.old; now = S.faults store.new; failed = S.failed_name store.new }) result }
+    ensures sink { SinkAfter (Some (words_of d.now)) (record { told = S.told store.old; old = S.files store.old; new = S.files store.new; before = S.faults store.old; now = S.faults store.new; failed = S.failed_name store.new }) (record { old = K.written out.old; new = K.written out.new; before = K.faults out.old; now = K.faults out.new }) result }
+{
+    match debloat(alloc, d, store) {
+        Ok(report) => put_text(out, &report),
+        Err(status) => refuse(alloc, out, status),
+    }
+}
+
+/// Runs the tool on the command line's words, after the program's name.
+pub fn run_tool<S: Store, K: Sink>(
+    alloc: Global,
+    words: &Vec<Text>,
+    store: &mut S,
+    out: &mut K,
+) -> Status
+    ensures telling { S.told store.new ≡ S.told store.old }
+    ensures store_count { S.faults store.old ≤ S.faults store.new }
+    ensures sink_count { K.faults out.old ≤ K.faults out.new }
+    ensures cause { HasCause (form_of words.now.items) (record { told = S.told store.old; old = S.files store.old; new = S.files store.new; before = S.faults store.old; now = S.faults store.new; failed = S.failed_name store.new }) (record { old = K.written out.old; new = K.written out.new; before = K.faults out.old; now = K.faults out.new }) result }
+    ensures exact { AnswersExactly (form_of words.now.items) (record { told = S.told store.old; old = S.files store.old; new = S.files store.new; before = S.faults store.old; now = S.faults store.new; failed = S.failed_name store.new }) (record { old = K.written out.old; new = K.written out.new; before = K.faults out.old; now = K.faults out.new }) result }
+    ensures files { FilesAfter (form_of words.now.items) (record { told = S.told store.old; old = S.files store.old; new = S.files store.new; before = S.faults store.old; now = S.faults store.new; failed = S.failed_name store.new }) result }
+    ensures sink { SinkAfter (form_of words.now.items) (record { told = S.told store.old; old = S.files store.old; new = S.files store.new; before = S.faults store.old; now = S.faults store.new; failed = S.failed_name store.new }) (record { old = K.written out.old; new = K.written out.new; before = K.faults out.old; now = K.faults out.new }) result }
+{
+    match form(words) {
+        None => refuse(alloc, out, Status::Usage),
+        Some(d) => run_debloat(alloc, &d, store, out),
+    }
+}
