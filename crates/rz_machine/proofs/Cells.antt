@@ -1,12 +1,13 @@
 -- Cells of lists of regions, and what is fetched from them.
-use Rattle.std.proofs.Common.{◌≡◌, ◌≢◌, ℕ, zero, suc, ◌+◌, ◌-◌, ◌<◌, ◌≤◌, ◌⊎◌, inl, inr, Bool, true, false, ◌&&◌, if◌then◌else◌, nat_lt, nat_le, List, [], ◌∷◌, ◌++◌, length, get_or, Option, Some, None, refl, sym, ap, ap₂, ◌∙◌, subst, arith, le-leb, lt-ltb, le-ltb, leb-true, ltb-true}
+use Rattle.std.proofs.Common.{◌≡◌, ℕ, zero, suc, ◌+◌, ◌-◌, ◌<◌, ◌≤◌, ◌⊎◌, inl, inr, Bool, true, false, ◌&&◌, if◌then◌else◌, nat_lt, nat_le, List, [], ◌∷◌, length, get_or, Some, None, refl, ap, ap₂, ◌∙◌, arith, le-leb, lt-ltb, le-ltb, leb-true, ltb-true}
 use Rattle.std.specs.List.{AllByRecursion}
 use Rattle.std.proofs.lemmas.Bool.{and_parts}
 use Rattle.rz_machine.specs.declared.memory.Cell.{Cell}
 use Rattle.rz_machine.specs.declared.memory.Region.{Region}
-use Rattle.rz_machine.specs.Memory.{Regions, no_cell, contains, cell_in, cell_at, code_of, fetched, fetch, SameCode, NoSelfWritten}
+use Rattle.rz_machine.specs.Memory.{Regions, no_cell, contains, cell_in, cell_at, code_of, fetched, fetch, NoSelfWritten}
 use Rattle.rz_machine.specs.PlainImage.{IsPlainRegion}
 
+-- a test that fails
 and_false : (b : Bool) → (b && false) ≡ false
 and_false true = refl
 and_false false = refl
@@ -55,6 +56,7 @@ none_self_written m h = record { at = cells P (λ a w. refl) m (all_map IsFixed 
         let parts = and_parts (nat_lt k r.opened) r.perm.write w in
         ap (λ b. nat_lt k r.opened && b) (f parts.1) ∙ and_false (nat_lt k r.opened)
 
+-- a byte among bytes, or zero past them
 get_byte : (bs : List ℕ) (k : ℕ) → AllByRecursion (λ b. b < 256) bs → get_or bs k 0 < 256
 get_byte [] k h = omega arith
 get_byte (b ∷ bs) zero h = h.0

@@ -3,7 +3,7 @@ use Rattle.std.proofs.Common.{◌≡◌, ◌≢◌, ℕ, zero, suc, ◌+◌, ⊎
 use Rattle.std.proofs.lemmas.Bool.{cases_eq}
 use Rattle.rz_machine.specs.declared.memory.Cell.{Cell}
 use Rattle.rz_machine.specs.declared.machine.Machine.{Machine}
-use Rattle.rz_machine.specs.Memory.{Regions, Range, IsInside, cell_at, put_byte, code_of, fetched, fetch, SameCode, NoSelfWritten, SamePerms, PermsStand}
+use Rattle.rz_machine.specs.Memory.{Regions, Range, cell_at, put_byte, code_of, fetched, fetch, SameCode, NoSelfWritten, SamePerms, PermsStand}
 use Rattle.rz_machine.specs.Insn.{Decoder}
 use Rattle.rz_machine.specs.State.{step, after}
 use Rattle.rz_machine.proofs.MemoryLaws.{set_byte, cell_at-put_same, cell_at-put_other}

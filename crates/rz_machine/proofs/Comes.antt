@@ -1,8 +1,7 @@
 -- The new run comes to a place, by one instruction after the other.
-use Rattle.std.proofs.Common.{◌≡◌, ℕ, suc, ◌+◌, ◌<◌, ◌≤◌, List, [], ◌∷◌, set, Option, Some, None, refl, sym, ap, ◌∙◌, subst, arith}
+use Rattle.std.proofs.Common.{◌≡◌, ℕ, suc, ◌+◌, ◌≤◌, None, refl, sym, ap, ◌∙◌, subst, arith}
 use Rattle.rz_machine.specs.declared.insn.Insn.{Insn}
 use Rattle.rz_machine.specs.declared.insn.Insn.TheVariants as insn
-use Rattle.rz_machine.specs.declared.decode.Decoded.{Decoded}
 use Rattle.rz_machine.specs.declared.decode.Decoded.TheVariants as decoded
 use Rattle.rz_machine.specs.declared.machine.End.TheVariants as end
 use Rattle.rz_machine.specs.declared.machine.Machine.{Machine}

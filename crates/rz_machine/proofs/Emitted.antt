@@ -1,8 +1,7 @@
 -- The fragments' bytes one after the other: their lengths, and where each fragment stands.
-use Rattle.std.proofs.Common.{◌≡◌, ◌≢◌, ℕ, suc, ◌+◌, ◌*◌, ◌<◌, ◌≤◌, Bool, true, false, ◌||◌, if◌then◌else◌, ◌==◌, List, [], ◌∷◌, ◌++◌, length, Option, Some, None, refl, sym, ap, ap₂, ◌∙◌, subst, arith, append_assoc, length-append, eqb-true, eq-eqb, ne_eqb}
+use Rattle.std.proofs.Common.{◌≡◌, ℕ, ◌+◌, ◌*◌, ◌<◌, ◌≤◌, Bool, true, false, ◌||◌, if◌then◌else◌, ◌==◌, List, [], ◌∷◌, ◌++◌, length, Option, Some, refl, sym, ap, ap₂, ◌∙◌, subst, arith, append_assoc, length-append, eqb-true, eq-eqb, ne_eqb}
 use Rattle.std.specs.List.{AllByRecursion, list_any}
 use Rattle.std.proofs.lemmas.Bool.{cond-true, cond-false}
-use Rattle.rz_machine.specs.declared.insn.Insn.{Insn}
 use Rattle.rz_machine.specs.declared.decode.Decoded.{Decoded}
 use Rattle.rz_machine.specs.declared.decode.Decoded.TheVariants as decoded
 use Rattle.rz_machine.specs.declared.items.Label.{Label}
@@ -13,7 +12,7 @@ use Rattle.rz_machine.specs.Insn.{Decoder}
 use Rattle.rz_machine.specs.Keeps.{Edges}
 use Rattle.rz_machine.specs.Nodes.{spelled_at}
 use Rattle.rz_machine.specs.Rewritable.{has_node, IsAscending}
-use Rattle.rz_machine.specs.Fragments.{items_of, items_for, trimmed, first_node, fragments, items_len, place_in, items_bytes, fragments_bytes}
+use Rattle.rz_machine.specs.Fragments.{items_for, trimmed, first_node, fragments, items_len, place_in, items_bytes, fragments_bytes}
 use Rattle.rz_machine.proofs.Placed.{BytesAt, bytes_front, bytes_back, length-items}
 use Rattle.rz_machine.proofs.Trimmed.{length-trimmed, length-items_of}
 
@@ -22,6 +21,7 @@ abbrev pub total_len : List Fragment → ℕ
 total_len [] = 0
 total_len (f ∷ rest) = items_len f.items + total_len rest
 
+-- the bytes have that length
 pub length-fragments_bytes : (at : Label → ℕ) (from : ℕ) (frags : List Fragment) → length (fragments_bytes at from frags) ≡ total_len frags
 unfolding fragments_bytes
 length-fragments_bytes at from [] = refl

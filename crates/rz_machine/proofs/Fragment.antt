@@ -1,7 +1,5 @@
 -- A fragment follows its instruction.
-use Rattle.std.proofs.Common.{◌≡◌, ℕ, zero, suc, ◌+◌, ◌%◌, ◌^◌, ◌<◌, ◌≤◌, inr, List, [], ◌∷◌, set, Option, Some, None, refl, sym, ap, ap₂, ◌∙◌, subst, arith, mod-eq_of_lt}
-use Rattle.rz_num.specs.declared.width.Width.{Width}
-use Rattle.rz_num.specs.declared.width.Width.TheVariants.{W32}
+use Rattle.std.proofs.Common.{◌≡◌, ℕ, ◌%◌, ◌^◌, ◌<◌, ◌≤◌, inr, List, [], ◌∷◌, set, Option, Some, None, refl, sym, ap, ap₂, ◌∙◌, subst, arith, mod-eq_of_lt}
 use Rattle.rz_machine.specs.declared.flags.Flags.{Flags}
 use Rattle.rz_machine.specs.declared.insn.Reg.TheVariants.{R}
 use Rattle.rz_machine.specs.declared.insn.Place.TheVariants.{Reg}
@@ -27,7 +25,7 @@ use Rattle.rz_machine.proofs.CodeLaws.{HasCode, step_code}
 use Rattle.rz_machine.proofs.OneForm.{DoneAlike, carry_alike, CalledAlike, call_alike}
 use Rattle.rz_machine.proofs.Runs.{dest, Follows, Stand}
 use Rattle.rz_machine.proofs.Placed.{InsnAt}
-use Rattle.rz_machine.proofs.Comes.{decodes_to, step_is, jump_is, ud2_is, Comes, stay, one_more, weaker, jump_comes, Onto, onto}
+use Rattle.rz_machine.proofs.Comes.{decodes_to, step_is, jump_is, ud2_is, Comes, one_more, weaker, jump_comes, Onto, onto}
 
 -- RCX is set anew
 rcx_again : (regs : List ℕ) (x y z w : ℕ) → set (set (set (set regs 0 x) 1 y) 11 z) 1 w ≡ set (set (set regs 0 x) 1 w) 11 z
@@ -60,6 +58,7 @@ module _ (dec : Decoder) (edges : Edges) (lay : Layout) (place bound : ℕ → �
   NoPlace (end.Illegal a) = ⊥
   NoPlace e = Unit {0}
 
+  -- such ends are alike where they are equal
   same_ends : (e : End) → NoPlace e → AlikeEnds lay.code (Some e) (Some e)
   same_ends (end.Illegal a) h = absurd h
   same_ends (end.Exit n) h = refl
@@ -145,6 +144,7 @@ module _ (dec : Decoder) (edges : Edges) (lay : Layout) (place bound : ℕ → �
       let P : Decoded → Type 0 = λ d. InsnClear lay.added d s in
       subst P (decodes_to dec xm a x n at s rip code) (clear runs)
 
+  -- a jump becomes one to its label
   jmp_follows : (a b n p : ℕ) (s t : Machine) → InsnAt dec xm a (insn.Jmp b) n → InsnAt dec wm (place a) (insn.Jmp (To a b)) p → s.cpu.rip ≡ a → Stand lay place xm wm s t → Follows dec edges lay place bound a (step dec s) t
   jmp_follows a b n p s t old new rip st =
       let there : t.cpu.rip ≡ place a = st.there ∙ ap place rip in
@@ -155,6 +155,7 @@ module _ (dec : Decoder) (edges : Edges) (lay : Layout) (place bound : ℕ → �
       let c = jump_comes dec lay.added wm (place a) (To a b) p new s1 t st.new_runs there st.new_code same in
       subst Q (sym f) (goes_now a s1 t st.old_runs (weaker dec lay.added s1 t 1 1 1 3 (To a b) (omega arith) (omega arith) c))
 
+  -- UD2 stays, and its address lies in the code part
   ud2_follows : (a n p : ℕ) (s t : Machine) → InsnAt dec xm a insn.Ud2 n → InsnAt dec wm (place a) insn.Ud2 p → IsInside lay.code (place a) → s.cpu.rip ≡ a → Stand lay place xm wm s t → Follows dec edges lay place bound a (step dec s) t
   ud2_follows a n p s t old new inside rip st =
       let there : t.cpu.rip ≡ place a = st.there ∙ ap place rip in
@@ -165,6 +166,7 @@ module _ (dec : Decoder) (edges : Edges) (lay : Layout) (place bound : ℕ → �
       let same : Same lay.added (stopped (end.Illegal s.cpu.rip) s) (stopped (end.Illegal t.cpu.rip) t) = record { regs = st.same.regs; flags = st.same.flags; world = st.same.world; mem = st.same.mem } in
       subst Q (sym f) (ends_now a (stopped (end.Illegal s.cpu.rip) s) t (stopped (end.Illegal t.cpu.rip) t) (end.Illegal s.cpu.rip) (end.Illegal t.cpu.rip) e refl refl (inr in_code) same)
 
+  -- alike calls leave the same world
   world_alike : (regs regs' : List ℕ) (w w' : World) (c d : Called) → regs ≡ regs' → w ≡ w' → CalledAlike lay.added c d → world_after regs w c ≡ world_after regs' w' d
   world_alike regs regs' w w' c d e f h = let x1 = h.answer in let x2 = h.bytes in let x3 = h.stdin in let x4 = h.replies in cc
 
@@ -195,6 +197,7 @@ module _ (dec : Decoder) (edges : Edges) (lay : Layout) (place bound : ℕ → �
       let all : Comes dec lay.added s1 t 2 3 there = one_more dec lay.added s1 t t1 1 2 there e1 (one_more dec lay.added s1 t1 t2 0 1 there e2 last) in
       goes_now a s1 t st.old_runs (weaker dec lay.added s1 t 2 3 1 3 there (omega arith) (omega arith) all)
 
+  -- a system call is made as it is, and RCX set to the old next address
   syscall_follows : (a n p q : ℕ) (s t : Machine) (old : InsnAt dec xm a insn.Syscall n) → n < 2 ^ 32 → InsnAt dec wm (place a) insn.Syscall p → InsnAt dec wm p (mov_number 1 n) q → Onto dec wm q (To a n)
       → InsnClear lay.added (decoded.Insn insn.Syscall old.len) s → s.cpu.rip ≡ a → Stand lay place xm wm s t → Follows dec edges lay place bound a (step dec s) t
   unfolding answer

@@ -1,13 +1,13 @@
 -- The memory of a new file: its added parts, and the old loads without the permission to execute.
-use Rattle.std.proofs.Common.{◌≡◌, ℕ, ◌+◌, ◌-◌, ◌<◌, ◌≤◌, ◌⊎◌, inl, inr, ⊎_elim, Bool, true, false, ◌&&◌, if◌then◌else◌, List, [], ◌∷◌, ◌++◌, length, map, get_or, Some, None, refl, sym, ap, ◌∙◌, arith, lt-ltb}
+use Rattle.std.proofs.Common.{◌≡◌, ℕ, ◌+◌, ◌-◌, ◌<◌, ◌≤◌, inl, inr, ⊎_elim, Bool, true, false, ◌&&◌, if◌then◌else◌, List, [], ◌∷◌, ◌++◌, length, map, get_or, Some, None, refl, ap, ◌∙◌, arith, lt-ltb}
 use Rattle.std.specs.List.{AllByRecursion}
 use Rattle.std.proofs.lemmas.Bool.{cond-true, cond-false}
-use Rattle.std.proofs.lemmas.List.{length-replicate}
 use Rattle.rz_machine.specs.declared.memory.Region.{Region}
-use Rattle.rz_machine.specs.Memory.{Regions, Range, contains, cell_in, cell_at, code_of, IsOutside, SameCell, zeros, whole_region}
+use Rattle.rz_machine.specs.Memory.{Regions, contains, cell_in, cell_at, code_of, IsOutside, SameCell, zeros, whole_region}
 use Rattle.rz_machine.specs.Added.{scratch_size}
 use Rattle.rz_machine.specs.WrittenFile.{Parts, read_write, read_only, read_execute, added_regions, without_code}
 use Rattle.rz_machine.proofs.Placed.{BytesAt, bytes_from}
+use Rattle.rz_machine.proofs.ThinLaws.{length-zeros}
 use Rattle.rz_machine.proofs.Cells.{apart, inside, IsFixed}
 
 -- two lists of regions
@@ -34,10 +34,6 @@ stripped_same (r ∷ rs) n a = go (contains r a) (stripped_same rs n a)
 code_cell : (base : ℕ) (bytes : List ℕ) (i : ℕ) → i < length bytes → code_of (cell_in (whole_region base bytes read_execute) i) ≡ Some (get_or bytes i 0)
 code_cell base bytes i h = ap (λ b. if b && true then Some (get_or bytes i 0) else None) (lt-ltb i (length bytes) h)
 
-length-zeros : (n : ℕ) → length (zeros n) ≡ n
-unfolding zeros
-length-zeros n = length-replicate n 0
-
 module _ (p : Parts) (rest : Regions) where
   abbrev pub Whole : Regions
   Whole = added_regions p ++ rest
@@ -55,6 +51,7 @@ module _ (p : Parts) (rest : Regions) where
   abbrev pub stop_at : ℕ
   stop_at = p.base + scratch_size + length p.tables + length p.code + length p.stubs
 
+  -- the four added parts as regions
   scratch : Region
   scratch = whole_region p.base (zeros scratch_size) read_write
 

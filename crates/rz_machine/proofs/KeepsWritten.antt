@@ -1,11 +1,9 @@
 -- A rewritten file keeps each run of the original.
-use Rattle.std.proofs.Common.{◌≡◌, ℕ, suc, ◌+◌, ◌-◌, ◌*◌, ◌%◌, ◌^◌, ◌<◌, ◌≤◌, true, List, [], ◌∷◌, ◌++◌, length, map, take, replicate, Option, Some, None, refl, sym, ap, ◌∙◌, subst, subst₂, arith, append_assoc, mod-eq_of_lt}
+use Rattle.std.proofs.Common.{◌≡◌, ℕ, ◌+◌, ◌-◌, ◌*◌, ◌^◌, ◌<◌, ◌≤◌, true, List, [], ◌∷◌, ◌++◌, length, map, replicate, Some, None, refl, sym, ap, ◌∙◌, subst, subst₂, arith, append_assoc}
 use Rattle.std.specs.List.{AllByRecursion}
 use Rattle.rz_machine.specs.declared.insn.Insn.{Insn}
 use Rattle.rz_machine.specs.declared.insn.Insn.TheVariants as insn
-use Rattle.rz_machine.specs.declared.decode.Decoded.{Decoded}
 use Rattle.rz_machine.specs.declared.decode.Decoded.TheVariants as decoded
-use Rattle.rz_machine.specs.declared.items.Fragment.{Fragment}
 use Rattle.rz_machine.specs.declared.items.Item.{Item}
 use Rattle.rz_machine.specs.declared.items.Label.{Label}
 use Rattle.rz_machine.specs.declared.items.Label.TheVariants as label
@@ -13,37 +11,35 @@ use Rattle.rz_machine.specs.declared.machine.End.TheVariants as end
 use Rattle.rz_machine.specs.declared.machine.Machine.{Machine}
 use Rattle.rz_machine.specs.declared.sys.Input.{Input}
 use Rattle.rz_machine.specs.declared.trace.Record.{Record}
-use Rattle.rz_machine.specs.Memory.{Regions, Range, IsInside, IsOutside, SameCell, Alike, PermsStand, cell_at, fetch, wrap}
+use Rattle.rz_machine.specs.Memory.{Regions, IsOutside, SameCell, Alike, cell_at, wrap}
 use Rattle.rz_machine.specs.Insn.{IsNamed}
 use Rattle.rz_machine.specs.State.{step}
 use Rattle.rz_machine.specs.Touches.{StepClear}
 use Rattle.rz_machine.specs.Start.{start, heap_region, stack_region, first_regs, first_rsp}
 use Rattle.rz_machine.specs.Nodes.{spelled_at}
-use Rattle.rz_machine.specs.First.{decode_first, Spells}
-use Rattle.rz_machine.specs.TableLaws.{NamesInsn}
-use Rattle.rz_machine.specs.FirstLaws.{names_insns, spelled_where_decoded}
+use Rattle.rz_machine.specs.First.{decode_first}
 use Rattle.rz_machine.specs.Elf.{Image}
-use Rattle.rz_machine.specs.Added.{Added, Layout, added, layout_of, all_stubs, index_of}
+use Rattle.rz_machine.specs.Added.{Added, Layout, added, layout_of, all_stubs}
 use Rattle.rz_machine.specs.WrittenFile.{Parts, added_regions, without_code, new_image}
 use Rattle.rz_machine.specs.Keeps.{KeepsRun}
 use Rattle.rz_machine.specs.Pace.{Paced}
 use Rattle.rz_machine.specs.Rewritable.{IsRewritable, has_node}
-use Rattle.rz_machine.specs.Fragments.{items_of, items_for, trimmed, items_len, resolved, address_of, items_bytes}
-use Rattle.rz_machine.specs.PlainImage.{IsPlainImage, IsPlainRegion}
+use Rattle.rz_machine.specs.Fragments.{items_of, items_for, trimmed, items_len, address_of, items_bytes}
+use Rattle.rz_machine.specs.PlainImage.{IsPlainImage}
 use Rattle.rz_machine.specs.Rewritten.{HasRoom, IsRewritten, fragments_of, place_of, code_of_nodes}
 use Rattle.rz_machine.proofs.CodeLaws.{HasCode}
 use Rattle.rz_machine.proofs.RegLaws.{AreRegs, set_regs}
 use Rattle.rz_machine.proofs.Runs.{Follows, Stand, keeps, paced}
-use Rattle.rz_machine.proofs.Placed.{BytesAt, bytes_front, InsnAt, InsnsAt, insn_of_spelling, AllSpelled, items_stand}
+use Rattle.rz_machine.proofs.Placed.{BytesAt, InsnAt, insn_of_spelling, AllSpelled, items_stand}
 use Rattle.rz_machine.proofs.Comes.{step_is, ud2_is}
 use Rattle.rz_machine.proofs.Fragment.{FragmentAt, fragment_follows}
 use Rattle.rz_machine.proofs.Trimmed.{spelled_trimmed, spelled_items_of, length-trimmed, length-items_of, fragment_stands}
 use Rattle.rz_machine.proofs.Emitted.{items, Found, found}
-use Rattle.rz_machine.proofs.Cells.{IsFixed, all_map, none_self_written, plain_cell, fetch_bytes, fetch_low}
+use Rattle.rz_machine.proofs.Cells.{IsFixed, none_self_written}
 use Rattle.rz_machine.proofs.Images.{all_append, stripped_fixed, stripped_same, Whole, code_at, stubs_at, stop_at, code_there, stubs_there, beside, added_fixed}
 use Rattle.rz_machine.proofs.PlainNodes.{plain_fixed, Stands, stands}
 use Rattle.rz_machine.proofs.Parts.{Lie, stub_found}
-use Rattle.rz_machine.proofs.RewrittenLaws.{code_room, stubs_room, place_below, place_in_code, stop_low, label_low, lie}
+use Rattle.rz_machine.proofs.RewrittenLaws.{stubs_room, place_below, place_in_code, stop_low, label_low, lie}
 use Rattle.rz_machine.proofs.StartCode.{start_code}
 
 -- the registers at the start
@@ -86,9 +82,11 @@ module _ (x : Image) (kept : Record) (parts : Parts) (entry : ℕ) (can : IsRewr
   abbrev rest : Regions
   rest = map without_code x.loads ++ ends
 
+  -- the new run's memory begins with the added parts
   new_mem : new.mem ≡ Whole parts rest
   new_mem = append_assoc (added_regions parts) (map without_code x.loads) ends
 
+  -- these lie as the layout says
   where_parts_lie : Lie a parts.base (length parts.tables) (length parts.code) (length parts.stubs)
   where_parts_lie = lie decode_first x kept room parts entry are.parts_added
 
@@ -104,20 +102,24 @@ module _ (x : Image) (kept : Record) (parts : Parts) (entry : ℕ) (can : IsRewr
       same : (b : ℕ) → IsOutside lay.added b → SameCell (cell_at old.mem b) (cell_at new.mem b)
       same b out = rw (new_mem, beside parts rest b (outside b out)) (stripped_same x.loads ends b)
 
+  -- the old run's code is that of the loads
   old_code : HasCode x.loads old.mem
   old_code = start_code x input (none_self_written x.loads (plain_fixed x.loads plain))
 
+  -- the new run's code can't be written
   new_code : HasCode new.mem new.mem
   new_code =
       let loads = (new_image x parts entry).loads in
       let fixed = all_append IsFixed (added_regions parts) (map without_code x.loads) (added_fixed parts rest) (stripped_fixed x.loads) in
       record { same = record { at = λ b. refl }; fixed = (start_code (new_image x parts entry) input (none_self_written loads fixed)).fixed }
 
+  -- the fragments stand in the code part
   code_bytes : BytesAt new.mem a.code (code_of_nodes decode_first x kept ++ are.fill)
   code_bytes =
       let P : Regions → ℕ → Type 0 = λ m p. BytesAt m p (code_of_nodes decode_first x kept ++ are.fill) in
       subst (λ p. P new.mem p) where_parts_lie.code (subst (λ m. P m (code_at parts rest)) (sym new_mem) (subst (BytesAt (Whole parts rest) (code_at parts rest)) are.code (code_there parts rest)))
 
+  -- and the stubs in theirs
   stub_bytes : BytesAt new.mem a.stubs parts.stubs
   stub_bytes =
       subst (λ p. BytesAt new.mem p parts.stubs) where_parts_lie.stubs (subst (λ m. BytesAt m (stubs_at parts rest) parts.stubs) (sym new_mem) (stubs_there parts rest))
@@ -192,6 +194,7 @@ module _ (x : Image) (kept : Record) (parts : Parts) (entry : ℕ) (can : IsRewr
         perms = record { at = λ b i. record { read = refl; write = refl; execute = refl } };
       }
 
+  -- a kept node's instruction is fit for the machine
   named : (b : ℕ) → IsKept b → (y : Insn) (len : ℕ) → spelled_at decode_first x.loads b ≡ decoded.Insn y len → IsNamed y
   named b node y len e = (stands x plain b y len e).named
 

@@ -12,23 +12,28 @@ set_byte b c = if c.write then record c { byte = b } else c
 abbrev changed : Bool → Region → ℕ → ℕ → Region
 changed w r k b = if w then record r { bytes = set r.bytes k b } else r
 
+-- a changed region has the same addresses
 contains_changed : (w : Bool) (r : Region) (k b a : ℕ) → contains (changed w r k b) a ≡ contains r a
 contains_changed true r k b a = ap (λ n. nat_le r.base a && nat_lt a (r.base + n)) (length-set r.bytes k b)
 contains_changed false r k b a = refl
 
+-- its cell at the place has the new byte, where writing is allowed
 cell_changed_same : (w : Bool) (r : Region) (a b : ℕ) → a - r.base < length r.bytes → cell_in (changed w r (a - r.base) b) (a - (changed w r (a - r.base) b).base) ≡ (if w then record (cell_in r (a - r.base)) { byte = b } else cell_in r (a - r.base))
 cell_changed_same true r a b h = let k = a - r.base in ap (λ x. let c : Cell = record (cell_in r k) { byte = x } in c) (get_or-set_same r.bytes k b 0 h)
 cell_changed_same false r a b h = refl
 
+-- its other cells are as before
 cell_changed_other : (w : Bool) (r : Region) (k b c : ℕ) → c - r.base ≢ k → cell_in (changed w r k b) (c - (changed w r k b).base) ≡ cell_in r (c - r.base)
 cell_changed_other true r k b c h = let j = c - r.base in ap (λ x. let c : Cell = record (cell_in r j) { byte = x } in c) (get_or-set_other r.bytes k j b 0 h)
 cell_changed_other false r k b c h = refl
 
+-- the addresses of a region
 within : (r : Region) (a : ℕ) → contains r a ≡ true → (r.base ≤ a) × (a < r.base + length r.bytes)
 within r a e =
     let p = and_parts (nat_le r.base a) (nat_lt a (r.base + length r.bytes)) e in
     (leb-true r.base a p.0, ltb-true a (r.base + length r.bytes) p.1)
 
+-- the cell at the address of a put
 pub cell_at-put_same : (m : Regions) (a b : ℕ) → cell_at (put_byte m a b) a ≡ set_byte b (cell_at m a)
 unfolding cell_at put_byte
 cell_at-put_same [] a b = refl
@@ -47,6 +52,7 @@ cell_at-put_same (r ∷ rs) a b = go (cell_at-put_same rs a b) (contains r a) re
         cond-true (contains (changed w r k b) a) _ _ (contains_changed w r k b a ∙ e) ∙ cell_changed_same w r a b lt
     go ih false e = cond-false (contains r a) _ _ e ∙ ih
 
+-- the cells at other addresses
 pub cell_at-put_other : (m : Regions) (a b c : ℕ) → c ≢ a → cell_at (put_byte m a b) c ≡ cell_at m c
 unfolding cell_at put_byte
 cell_at-put_other [] a b c h = refl
@@ -82,6 +88,7 @@ same_set b c d h = go c.write d.write h.write
     go true false e = cc
     go false true e = cc
 
+-- memories stay alike under the same put outside the range
 pub alike_put : (r : Range) (m n : Regions) (a b : ℕ) → IsOutside r a → Alike r m n → Alike r (put_byte m a b) (put_byte n a b)
 alike_put r m n a b out h = record { at = λ c o. ⊎_elim (same c o) (other c o) (cases_eq c a) }
   where
@@ -93,14 +100,16 @@ alike_put r m n a b out h = record { at = λ c o. ⊎_elim (same c o) (other c o
     other : (c : ℕ) → IsOutside r c → (c ≡ a → ⊥) → SameCell (cell_at (put_byte m a b) c) (cell_at (put_byte n a b) c)
     other c o e = rw (cell_at-put_other m a b c e, cell_at-put_other n a b c e) (h.at c o)
 
+-- a clear access: its first byte, and the rest
+pub head_clear : (r : Range) (a n : ℕ) → IsClear r a (suc n) → IsOutside r (wrap a)
+head_clear r a n clear = let e : a + 0 ≡ a = omega arith in subst (λ x. IsOutside r (wrap x)) e (clear 0 (omega arith))
+
+pub tail_clear : (r : Range) (a n : ℕ) → IsClear r a (suc n) → IsClear r (a + 1) n
+tail_clear r a n clear k lt = let e : a + suc k ≡ a + 1 + k = omega arith in subst (λ x. IsOutside r (wrap x)) e (clear (suc k) (omega arith))
+
+-- and under the same puts
 pub alike_puts : (r : Range) (m n : Regions) (a : ℕ) (bs : List ℕ) → IsClear r a (length bs) → Alike r m n → Alike r (put_bytes m a bs) (put_bytes n a bs)
 unfolding put_bytes
 alike_puts r m n a [] clear h = h
 alike_puts r m n a (b ∷ bs) clear h =
     alike_puts r (put_byte m (wrap a) b) (put_byte n (wrap a) b) (a + 1) bs (tail_clear r a (length bs) clear) (alike_put r m n (wrap a) b (head_clear r a (length bs) clear) h)
-  where
-    head_clear : (r : Range) (a n : ℕ) → IsClear r a (suc n) → IsOutside r (wrap a)
-    head_clear r a n clear = let e : a + 0 ≡ a = omega arith in subst (λ x. IsOutside r (wrap x)) e (clear 0 (omega arith))
-
-    tail_clear : (r : Range) (a n : ℕ) → IsClear r a (suc n) → IsClear r (a + 1) n
-    tail_clear r a n clear k lt = let e : a + suc k ≡ a + 1 + k = omega arith in subst (λ x. IsOutside r (wrap x)) e (clear (suc k) (omega arith))

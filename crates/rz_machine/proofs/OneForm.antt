@@ -1,8 +1,8 @@
 -- Two states that are alike have alike effects.
-use Rattle.std.proofs.Common.{◌≡◌, ℕ, zero, suc, ◌+◌, ◌^◌, ◌<◌, ◌≤◌, ◌⊎◌, inl, inr, ⊎_elim, Bool, true, false, if◌then◌else◌, List, [], ◌∷◌, length, Option, Some, None, Result, Ok, Err, refl, sym, ap, ap₂, subst, arith, min, leb-true, mod-eq_of_lt}
+use Rattle.std.proofs.Common.{◌≡◌, ℕ, zero, suc, ◌+◌, ◌^◌, ◌<◌, ◌≤◌, ◌⊎◌, inl, inr, ⊎_elim, Bool, true, false, if◌then◌else◌, List, [], ◌∷◌, length, Option, Some, None, Result, Ok, Err, refl, sym, ap₂, subst, arith, min, leb-true, mod-eq_of_lt}
 use Rattle.byteorder.specs.Endian.{little_bytes, little_number}
 use Rattle.rz_machine.specs.declared.memory.Cell.{Cell}
-use Rattle.rz_machine.specs.Memory.{Regions, Range, IsOutside, IsClear, SameCell, Alike, put_bytes, bytes_at, refused, is_readable, is_writable, wrap}
+use Rattle.rz_machine.specs.Memory.{Regions, Range, IsOutside, IsClear, SameCell, Alike, bytes_at, refused, is_readable, is_writable, wrap}
 use Rattle.rz_machine.specs.declared.flags.Flags.{Flags}
 use Rattle.rz_machine.specs.declared.sys.Reply.{Reply}
 use Rattle.rz_machine.specs.declared.sys.Reply.TheVariants.{Full, AtMost, Error}
@@ -10,34 +10,34 @@ use Rattle.rz_machine.specs.declared.sys.World.{World}
 use Rattle.rz_machine.specs.Effect.{Access, Effect, Outcome, Goes, Stops, Done, Went, Stopped, carry, carry_out, after_reads, stored, read_words, with_word, ReadsClear, WriteClear, EffectClear}
 use Rattle.rz_machine.specs.Answer.{Called, Call, Write, Exit, Other, NoFile, CallClear, answer_as, write_allowed, write_reply, next_reply, whole, no_wrap, cut_count}
 use Rattle.byteorder.specs.Numbers.{length-bytes_low_first}
-use Rattle.rz_machine.proofs.MemoryLaws.{alike_puts}
+use Rattle.rz_machine.proofs.MemoryLaws.{head_clear, tail_clear, alike_puts}
 
-head_clear : (r : Range) (a n : ℕ) → IsClear r a (suc n) → IsOutside r (wrap a)
-head_clear r a n clear = let e : a + 0 ≡ a = omega arith in subst (λ x. IsOutside r (wrap x)) e (clear 0 (omega arith))
-
-tail_clear : (r : Range) (a n : ℕ) → IsClear r a (suc n) → IsClear r (a + 1) n
-tail_clear r a n clear k lt = let e : a + suc k ≡ a + 1 + k = omega arith in subst (λ x. IsOutside r (wrap x)) e (clear (suc k) (omega arith))
-
+-- a shorter access is clear too
 fewer_clear : (r : Range) (a n k : ℕ) → k ≤ n → IsClear r a n → IsClear r a k
 fewer_clear r a n k le clear i lt = clear i (omega arith)
 
+-- the same bytes are read
 alike_bytes : (r : Range) (m m' : Regions) (a n : ℕ) → IsClear r a n → Alike r m m' → bytes_at m a n ≡ bytes_at m' a n
 unfolding bytes_at
 alike_bytes r m m' a zero clear h = refl
 alike_bytes r m m' a (suc n) clear h = ap₂ ◌∷◌ (h.at (wrap a) (head_clear r a n clear)).byte (alike_bytes r m m' (a + 1) n (tail_clear r a n clear) h)
 
+-- and the same address is the first that is refused
 alike_refused : (test : Cell → Bool) → ((c d : Cell) → SameCell c d → test c ≡ test d) → (r : Range) (m m' : Regions) (a n : ℕ) → IsClear r a n → Alike r m m' → refused test m a n ≡ refused test m' a n
 unfolding refused
 alike_refused test same r m m' a zero clear h = refl
 alike_refused test same r m m' a (suc n) clear h =
     ap₂ (λ b o. if b then o else Some (wrap a)) (same _ _ (h.at (wrap a) (head_clear r a n clear))) (alike_refused test same r m m' (a + 1) n (tail_clear r a n clear) h)
 
+-- for a read
 alike_readable : (r : Range) (m m' : Regions) (a n : ℕ) → IsClear r a n → Alike r m m' → refused is_readable m a n ≡ refused is_readable m' a n
 alike_readable = alike_refused is_readable (λ c d s. s.read)
 
+-- for a write
 alike_writable : (r : Range) (m m' : Regions) (a n : ℕ) → IsClear r a n → Alike r m m' → refused is_writable m a n ≡ refused is_writable m' a n
 alike_writable = alike_refused is_writable (λ c d s. s.write)
 
+-- the same words are read, or the same address refused
 pub alike_reads : (r : Range) (m m' : Regions) (accesses : List Access) → ReadsClear r m accesses → Alike r m m' → read_words m accesses ≡ read_words m' accesses
 unfolding read_words
 alike_reads r m m' [] clear h = refl
@@ -66,14 +66,11 @@ carry_alike r m m' e clear h = rw (← alike_reads r m m' e.reads clear.reads h)
     store (Some bad) a regs flags word to c = refl
     store None a regs flags word to c = (refl, refl, alike_puts r m m' a.at (little_bytes a.size word) c h, refl)
 
-    long : (n v : ℕ) → length (little_bytes n v) ≡ n
-    long n v = length-bytes_low_first 0 n v
-
     out : (w : Option Access) (o : Outcome) → WriteClear r w o → DoneAlike r (carry_out m w o) (carry_out m' w o)
     out w (Stops why) c = refl
     out None (Goes regs flags word to) c = (refl, refl, h, refl)
     out (Some a) (Goes regs flags word to) c =
-        rw (← alike_writable r m m' a.at a.size c h) (store (refused is_writable m a.at a.size) a regs flags word to (fewer_clear r a.at a.size _ (let e : length (little_bytes a.size word) ≡ a.size = long a.size word in omega arith) c))
+        rw (← alike_writable r m m' a.at a.size c h) (store (refused is_writable m a.at a.size) a regs flags word to (fewer_clear r a.at a.size _ (let e : length (little_bytes a.size word) ≡ a.size = length-bytes_low_first 0 a.size word in omega arith) c))
 
     go : (res : Result (List ℕ) ℕ) → ((words : List ℕ) → res ≡ Ok words → WriteClear r e.write (e.gives words)) → DoneAlike r (after_reads e m res) (after_reads e m' res)
     go (Err bad) c = refl
@@ -95,6 +92,7 @@ call_clear r at n e clear k lt =
     let same : at + k ≡ wrap (at + k) = sym (mod-eq_of_lt low) in
     subst (IsOutside r) same (clear k lt low)
 
+-- a write that is answered, or refused without a look at memory
 write_alike : (r : Range) (m m' : Regions) (w : World) (at n : ℕ) → Alike r m m' → (o : Option ℕ) → (IsClear r at n ⊎ (o ≡ Some 0)) → CalledAlike r (write_allowed o at n m w) (write_allowed o at n m' w)
 write_alike r m m' w at n h (Some bad) c = record { answer = refl; bytes = refl; mem = h; stdin = refl; replies = refl; exit = refl }
 write_alike r m m' w at n h None c = ⊎_elim (λ clear. go (next_reply w.replies) clear) (λ e. absurd (let f : None ≡ Some 0 = e in cc)) c
@@ -120,6 +118,7 @@ whole_same r at n o p clear h = go (no_wrap at n) refl
     go true e = h (call_clear r at n e clear)
     go false e = refl
 
+-- each system call is answered alike
 pub call_alike : (r : Range) (m m' : Regions) (w : World) (call : Call) (a b c : ℕ) → CallClear r call b (cut_count c) → Alike r m m' → CalledAlike r (answer_as call a b c m w) (answer_as call a b c m' w)
 call_alike r m m' w Exit a b c clear h = record { answer = refl; bytes = refl; mem = h; stdin = refl; replies = refl; exit = refl }
 call_alike r m m' w Other a b c clear h = record { answer = refl; bytes = refl; mem = h; stdin = refl; replies = refl; exit = refl }

@@ -1,11 +1,10 @@
 -- The added parts of a rewritten file: where they lie, and that fragments and stubs fit them.
-use Rattle.std.proofs.Common.{◌≡◌, ◌≢◌, ℕ, ◌+◌, ◌-◌, ◌*◌, ◌/◌, ◌%◌, ◌<◌, ◌≤◌, Bool, true, false, ◌||◌, if◌then◌else◌, ◌==◌, List, [], ◌∷◌, ◌++◌, length, min, replicate, refl, sym, ap, ◌∙◌, subst, arith, append_assoc, length-append, eqb-true}
+use Rattle.std.proofs.Common.{◌≡◌, ℕ, ◌+◌, ◌-◌, ◌*◌, ◌≤◌, Bool, true, false, ◌||◌, if◌then◌else◌, ◌==◌, List, [], ◌∷◌, ◌++◌, length, replicate, refl, subst, arith, append_assoc, length-append}
 use Rattle.std.specs.List.{AllByRecursion}
 use Rattle.std.proofs.lemmas.List.{length-replicate}
 use Rattle.rz_num.specs.Page.{page_up}
-use Rattle.rz_machine.specs.declared.memory.Region.{Region}
 use Rattle.rz_machine.specs.Memory.{Regions}
-use Rattle.rz_machine.specs.Added.{Added, lowest, page_floor, parts_below, scratch_size, stub_bytes, all_stubs, filled, index_of}
+use Rattle.rz_machine.specs.Added.{Added, lowest, parts_below, scratch_size, stub_bytes, all_stubs, filled, index_of}
 use Rattle.rz_machine.specs.Rewritable.{has_node}
 use Rattle.rz_machine.specs.PlainImage.{IsPlainRegion}
 use Rattle.rz_machine.proofs.Placed.{BytesAt, bytes_back}
@@ -27,6 +26,7 @@ pub record Lie (a : Added) (base t c s : ℕ) : Type 0 where
   pub stubs : base + scratch_size + t + c ≡ a.stubs
   pub stop : base + scratch_size + t + c + s ≡ a.stop
 
+-- parts of these sizes lie one after the other up to the stop
 pub parts_lie : (tables_len code_len stubs_len stop base t c s : ℕ) → scratch_size + tables_len + code_len + stubs_len ≤ stop
     → let a = parts_below tables_len code_len stubs_len stop in base ≡ a.scratch → t ≡ a.code - a.tables → c ≡ a.stubs - a.code → s ≡ a.stop - a.stubs → Lie a base t c s
 parts_lie tables_len code_len stubs_len stop base t c s room b tl cl sl = record { scratch = b; code = omega arith; stubs = omega arith; stop = omega arith }

@@ -1,8 +1,5 @@
 -- Instructions at places in memory: from bytes that may be executed to what they spell.
-use Rattle.std.proofs.Common.{◌≡◌, ℕ, zero, suc, ◌+◌, ◌-◌, ◌^◌, ◌<◌, ◌≤◌, List, [], ◌∷◌, ◌++◌, length, map, get_or, Some, refl, sym, ap, ap₂, ◌∙◌, subst, arith, mod-eq_of_lt, length-append}
-use Rattle.rz_machine.specs.declared.insn.Reg.TheVariants.{R}
-use Rattle.rz_machine.specs.declared.insn.Place.TheVariants as place
-use Rattle.rz_machine.specs.declared.insn.Operand.TheVariants.{Imm}
+use Rattle.std.proofs.Common.{◌≡◌, ℕ, suc, ◌+◌, ◌-◌, ◌^◌, ◌<◌, ◌≤◌, List, [], ◌∷◌, ◌++◌, length, map, get_or, Some, refl, sym, ap, ap₂, ◌∙◌, subst, arith, mod-eq_of_lt, length-append}
 use Rattle.rz_machine.specs.declared.insn.Insn.{Insn}
 use Rattle.rz_machine.specs.declared.insn.Insn.TheVariants as insn
 use Rattle.rz_machine.specs.declared.decode.Decoded.TheVariants as decoded

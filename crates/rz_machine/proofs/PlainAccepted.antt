@@ -1,13 +1,11 @@
 -- What is loaded of an accepted file of bytes is plain.
-use Rattle.std.proofs.Common.{◌≡◌, ◌≢◌, ℕ, zero, suc, ◌+◌, ◌-◌, ◌/◌, ◌%◌, ◌<◌, ◌≤◌, Bool, true, false, not, ◌&&◌, if◌then◌else◌, nat_lt, nat_le, ◌==◌, List, [], ◌∷◌, ◌++◌, length, take, drop, map, filter, min, Option, Some, None, refl, sym, ap, ◌∙◌, subst, arith, length-append, length-take, eqb-true, ne_eqb, leb-true, le-ltb}
+use Rattle.std.proofs.Common.{◌≡◌, ℕ, zero, suc, ◌+◌, ◌-◌, ◌<◌, ◌≤◌, Bool, true, false, not, ◌&&◌, if◌then◌else◌, nat_lt, nat_le, ◌==◌, List, [], ◌∷◌, ◌++◌, length, take, drop, map, filter, Option, Some, None, refl, sym, ap, ◌∙◌, arith, length-append, length-take}
 use Rattle.std.specs.List.{AllByRecursion}
-use Rattle.std.proofs.lemmas.Bool.{and_parts}
 use Rattle.std.proofs.lemmas.Bool.Decides.{nat_tests}
 use Rattle.rz_machine.specs.declared.elf.ElfFault.{ElfFault}
 use Rattle.rz_machine.specs.declared.elf.ElfFault.TheVariants as fault
-use Rattle.rz_machine.specs.declared.memory.Region.{Region}
-use Rattle.rz_machine.specs.Memory.{Regions, zeros}
-use Rattle.rz_machine.specs.Elf.{Segment, segments, is_load, loads, file_header, placed_from, placed, against, Condition, first_of, each, of_segment, is_dynamic, is_stack_code, has_other_flags, is_writable_code, is_larger_in_file, leaves_file, is_misaligned, is_far, isnt_above, shares_page, has_flag, perm_of, file_conditions, header_conditions, load_conditions, fault_of, load_bytes, load_region, Image, image_of}
+use Rattle.rz_machine.specs.Memory.{zeros}
+use Rattle.rz_machine.specs.Elf.{Segment, segments, is_load, loads, file_header, placed_from, placed, against, Condition, first_of, each, of_segment, is_dynamic, is_stack_code, has_other_flags, is_writable_code, is_larger_in_file, leaves_file, is_misaligned, is_far, isnt_above, shares_page, has_flag, file_conditions, header_conditions, load_conditions, fault_of, load_bytes, load_region, image_of}
 use Rattle.rz_machine.specs.PlainImage.{IsPlainImage, IsPlainRegion}
 use Rattle.rz_machine.proofs.Accepted.{NoneHolds}
 use Rattle.rz_machine.proofs.ThinLaws.{length-zeros}
@@ -42,6 +40,7 @@ record IsSound (s : Segment) : Type 0 where
   small : is_larger_in_file s ≡ false
   near : is_far s ≡ false
 
+-- the conditions together
 all_sound : (segs : List Segment) → AllByRecursion (λ s. has_other_flags s ≡ false) segs → AllByRecursion (λ s. is_writable_code s ≡ false) segs → AllByRecursion (λ s. is_larger_in_file s ≡ false) segs → AllByRecursion (λ s. is_far s ≡ false) segs → AllByRecursion IsSound segs
 all_sound [] a b c d = tt
 all_sound (s ∷ segs) a b c d = (record { flags = a.0; fixed = b.0; small = c.0; near = d.0 }, all_sound segs a.1 b.1 c.1 d.1)
@@ -83,10 +82,12 @@ all_drop P zero bs h = h
 all_drop P (suc n) [] h = h
 all_drop P (suc n) (b ∷ bs) h = all_drop P n bs h.1
 
+-- two lists of bytes
 all_two : (P : ℕ → Type 0) (a b : List ℕ) → AllByRecursion P a → AllByRecursion P b → AllByRecursion P (a ++ b)
 all_two P [] b h k = k
 all_two P (c ∷ a) b h k = (h.0, all_two P a b h.1 k)
 
+-- zeros are bytes
 all_zeros : (n : ℕ) → AllByRecursion (λ b. b < 256) (zeros n)
 unfolding zeros
 all_zeros zero = tt

@@ -27,6 +27,7 @@ module _ (x : Image) (plain : IsPlainImage x) where
     pub low : b + len ≤ 0x70000000
     pub first : (cell_at x.loads b).execute ≡ true
 
+  -- each node of the table is such
   pub stands : (b : ℕ) (y : Insn) (len : ℕ) → spelled_at decode_first x.loads b ≡ decoded.Insn y len → Stands b y len
   stands b y len e =
       let bs : List ℕ = fetch x.loads b 15 in

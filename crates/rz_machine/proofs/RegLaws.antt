@@ -1,5 +1,5 @@
 -- Registers stay sixteen words below 2^64.
-use Rattle.std.proofs.Common.{◌≡◌, ℕ, zero, suc, ◌+◌, ◌-◌, ◌%◌, ◌^◌, ◌<◌, ◌≤◌, true, false, List, [], ◌∷◌, length, get_or, set, min, Option, Some, None, refl, ◌∙◌, arith, length-set, subst}
+use Rattle.std.proofs.Common.{◌≡◌, ℕ, zero, suc, ◌+◌, ◌^◌, ◌<◌, ◌≤◌, true, false, List, [], ◌∷◌, length, get_or, set, Option, Some, None, refl, ◌∙◌, arith, length-set}
 use Rattle.std.specs.List.{AllByRecursion}
 use Rattle.rz_num.specs.declared.width.Width.{Width}
 use Rattle.rz_num.specs.declared.width.Width.TheVariants.{W8, W16, W32, W64}
@@ -20,8 +20,8 @@ use Rattle.rz_machine.specs.declared.sys.World.{World}
 use Rattle.rz_machine.specs.Memory.{Regions, wrap}
 use Rattle.rz_machine.specs.Insn.{Decoder, IsNamed}
 use Rattle.rz_machine.specs.Effect.{carry, read_words, written}
-use Rattle.rz_machine.specs.Answer.{Called, Call, Write, NoFile, Exit, Other, answer, answer_as, call_in, cut_count, write_allowed, write_reply, next_reply, negative}
-use Rattle.rz_machine.specs.State.{step, after, act, perform, running, after_exit, regs_after, flags_word, bit_of, decoded_at}
+use Rattle.rz_machine.specs.Answer.{Called, Call, Write, NoFile, Exit, Other, answer, answer_as, call_in, cut_count, write_allowed, write_reply, next_reply}
+use Rattle.rz_machine.specs.State.{step, act, perform, running, after_exit, flags_word, bit_of, decoded_at}
 
 -- a word of 64 bits
 abbrev pub IsWord : ℕ → Type 0
@@ -32,11 +32,13 @@ pub record AreRegs (regs : List ℕ) : Type 0 where
   pub sixteen : length regs ≡ 16
   pub words : AllByRecursion IsWord regs
 
+-- a word set among words
 set_words : (regs : List ℕ) (i v : ℕ) → AllByRecursion IsWord regs → IsWord v → AllByRecursion IsWord (set regs i v)
 set_words [] i v h w = h
 set_words (x ∷ xs) zero v h w = (w, h.1)
 set_words (x ∷ xs) (suc i) v h w = (h.0, set_words xs i v h.1 w)
 
+-- a word among words, or zero past them
 get_word : (regs : List ℕ) (i : ℕ) → AllByRecursion IsWord regs → IsWord (get_or regs i 0)
 get_word [] i h = omega arith
 get_word (x ∷ xs) zero h = h.0
@@ -53,6 +55,7 @@ written_word W16 old v h k = omega arith
 written_word W32 old v h k = omega arith
 written_word W64 old v h k = omega arith
 
+-- the flags word is one
 flags_fit : (f : Flags) → IsWord (flags_word f)
 flags_fit f =
     let a = bit f.cf 1 in let b = bit f.pf 4 in let c = bit f.af 16 in let d = bit f.zf 64 in let e = bit f.sf 128 in let g = bit f.df 1024 in let h = bit f.of 2048 in

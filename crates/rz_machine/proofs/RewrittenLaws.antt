@@ -1,19 +1,19 @@
 -- The places in a rewritten file: fragments lie in the code part, stubs behind it, all at low addresses.
-use Rattle.std.proofs.Common.{◌≡◌, ℕ, ◌+◌, ◌-◌, ◌*◌, ◌^◌, ◌<◌, ◌≤◌, true, List, ◌++◌, length, refl, sym, ap, ◌∙◌, arith, length-append}
+use Rattle.std.proofs.Common.{◌≡◌, ℕ, ◌+◌, ◌-◌, ◌*◌, ◌^◌, ◌<◌, ◌≤◌, true, List, length, ap, ◌∙◌, arith}
 use Rattle.rz_machine.specs.declared.items.Fragment.{Fragment}
 use Rattle.rz_machine.specs.declared.items.Label.{Label}
 use Rattle.rz_machine.specs.declared.items.Label.TheVariants as label
 use Rattle.rz_machine.specs.declared.trace.Record.{Record}
 use Rattle.rz_machine.specs.Insn.{Decoder}
 use Rattle.rz_machine.specs.Elf.{Image}
-use Rattle.rz_machine.specs.Added.{Added, added, lowest, page_floor, all_stubs, index_of, sites, site_edges, tables_size, code_size, stubs_size}
-use Rattle.rz_machine.specs.WrittenFile.{Parts, IsAdded, stubs_part}
-use Rattle.rz_machine.specs.Rewritable.{IsRewritable, has_node}
+use Rattle.rz_machine.specs.Added.{Added, added, lowest, page_floor, all_stubs, sites, site_edges, tables_size, code_size, stubs_size}
+use Rattle.rz_machine.specs.WrittenFile.{Parts, IsAdded}
+use Rattle.rz_machine.specs.Rewritable.{has_node}
 use Rattle.rz_machine.specs.Fragments.{address_of}
 use Rattle.rz_machine.specs.PlainImage.{IsPlainImage}
 use Rattle.rz_machine.specs.Rewritten.{HasRoom, fragments_of, place_of}
-use Rattle.rz_machine.proofs.Emitted.{total_len, place_low, place_from, total_most}
-use Rattle.rz_machine.proofs.Parts.{code_size_is, stubs_size_is, page_up-least, lowest_low, Lie, parts_lie, length-filled, length-all_stubs, index_low}
+use Rattle.rz_machine.proofs.Emitted.{place_low, place_from, total_most}
+use Rattle.rz_machine.proofs.Parts.{page_up-least, lowest_low, Lie, parts_lie, length-filled, length-all_stubs, index_low}
 
 module _ (dec : Decoder) (x : Image) (kept : Record) (room : HasRoom dec x kept) where
   abbrev a : Added

@@ -136,6 +136,7 @@ module _ (dec : Decoder) (edges : Edges) (lay : Layout) (place bound : ℕ → �
               let g = m.left in
               cc
 
+  -- so far a run goes that meets no touch, no cut and no end
   arrives : (n : ℕ) → RunClear lay.added dec x n → NoCut dec edges x n → (after dec n x).end ≡ None → Arrived n
   unfolding after
   arrives zero clear nocut runs = record { steps = 0; moment = refl; node = begins; stand = stands; kept = λ i lt. absurd (omega arith) }
@@ -180,6 +181,7 @@ module _ (dec : Decoder) (edges : Edges) (lay : Layout) (place bound : ℕ → �
     over : (after dec (suc count) x).end ≡ Some why
     rest : after dec n x ≡ after dec (suc count) x
 
+  -- each run that has ended has such a step
   last : (n : ℕ) (why : End) → (after dec n x).end ≡ Some why → Last n why
   unfolding after
   last zero why over = absurd (let f = stands.old_runs in cc)

@@ -33,6 +33,7 @@ module _ (P : Regions → Type 0) (stands : StandsPut P) where
   InDone (Went regs flags mem to) = P mem
   InDone (Stopped why) = Unit {0}
 
+  -- an effect
   carry_stands : (m : Regions) (e : Effect) → P m → InDone (carry e m)
   unfolding carry
   carry_stands m e h = go (read_words m e.reads)

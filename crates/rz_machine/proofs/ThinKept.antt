@@ -1,28 +1,28 @@
 -- A rewritten thin file: its kept nodes are few, its parts have room, and its runs are kept.
-use Rattle.std.proofs.Common.{◌≡◌, ℕ, zero, suc, ◌+◌, ◌-◌, ◌<◌, ◌≤◌, Bool, true, false, ◌&&◌, ◌||◌, ◌==◌, nat_le, nat_lt, List, [], ◌∷◌, ◌++◌, length, drop, refl, sym, ap, ◌∙◌, subst, arith, eq-eqb, leb-true, ltb-true, if◌then◌else◌}
+use Rattle.std.proofs.Common.{◌≡◌, ℕ, suc, ◌+◌, ◌-◌, ◌<◌, ◌≤◌, Bool, true, false, ◌||◌, ◌==◌, nat_le, nat_lt, List, [], ◌∷◌, length, refl, sym, ap, ◌∙◌, subst, arith, eq-eqb, leb-true, ltb-true, if◌then◌else◌}
 use Rattle.std.specs.List.{AllByRecursion}
 use Rattle.std.proofs.lemmas.Bool.{and_parts}
-use Rattle.rz_machine.specs.declared.memory.Cell.{Cell}
 use Rattle.rz_machine.specs.declared.sys.Input.{Input}
 use Rattle.rz_machine.specs.declared.trace.Record.{Record}
 use Rattle.rz_machine.specs.Memory.{no_cell, contains, cell_in, cell_at}
 use Rattle.rz_machine.specs.First.{decode_first}
 use Rattle.rz_machine.specs.Elf.{Image, image_of, fault_of}
-use Rattle.rz_machine.specs.Added.{Added, added, layout_of, code_size, stubs_size, sites, site_edges}
-use Rattle.rz_machine.specs.WrittenFile.{Parts, IsAdded, new_image, written_file, Inert}
+use Rattle.rz_machine.specs.Added.{Added, added, layout_of, code_size, stubs_size}
+use Rattle.rz_machine.specs.WrittenFile.{Parts, IsAdded, new_image, written_file}
 use Rattle.rz_machine.specs.Start.{IsValid, start}
 use Rattle.rz_machine.specs.Thin.{IsThin, thin_base, thin_file}
-use Rattle.rz_machine.specs.Keeps.{Keeps, KeepsRun}
+use Rattle.rz_machine.specs.Keeps.{KeepsRun}
 use Rattle.rz_machine.specs.Rewritable.{IsRewritable, IsAscending, has_node}
-use Rattle.rz_machine.specs.PlainImage.{IsPlainImage, IsPlainRegion}
-use Rattle.rz_machine.specs.Rewritten.{HasRoom, IsRewritten, ThinFilesKept, ThinFilesHaveRoom}
-use Rattle.rz_machine.proofs.PlainNodes.{Stands, stands}
+use Rattle.rz_machine.specs.PlainImage.{IsPlainImage}
+use Rattle.rz_machine.specs.Rewritten.{HasRoom, ThinFilesKept, ThinFilesHaveRoom}
+use Rattle.rz_machine.proofs.PlainNodes.{stands}
 use Rattle.rz_machine.proofs.ThinLaws.{code_region, code_image, thin_image, thin_accepted}
 use Rattle.rz_machine.proofs.PlainAccepted.{accepted_plain}
 use Rattle.rz_machine.proofs.WrittenLaws.{PartsFit, written_image}
 use Rattle.rz_machine.proofs.AddedLaws.{sites-first, site_edges-first, thin_added, added-thin, parts_fit, inert_of}
 use Rattle.rz_machine.proofs.KeepsWritten.{keeps_written}
 
+-- a test that holds
 or_true : (b : Bool) → (b || true) ≡ true
 or_true true = refl
 or_true false = refl
@@ -33,6 +33,7 @@ all_members P [] h = tt
 all_members P (c ∷ nodes) h =
     (h c (ap (λ v. v || has_node nodes c) (eq-eqb c c refl)), all_members P nodes (λ b e. h b (ap (λ v. (c == b) || v) e ∙ or_true (c == b))))
 
+-- addresses above one bound and below another
 both : (low high : ℕ) (nodes : List ℕ) → AllByRecursion (λ b. low < b) nodes → AllByRecursion (λ b. b < high) nodes → AllByRecursion (λ b. (suc low ≤ b) × (b < high)) nodes
 both low high [] h k = tt
 both low high (c ∷ nodes) h k = ((omega (arith, h.0), k.0), both low high nodes h.1 k.1)
@@ -67,6 +68,7 @@ module _ (code : List ℕ) (some : 1 ≤ length code) (few : length code ≤ 655
       (λ b e. let n = can.nodes b e in executed_in_code code b (stands (code_image code) plain b n.insn n.len n.spelled).first) in
       omega (arith, few_ascending thin_base (thin_base + length code) kept.nodes can.ascending inside)
 
+  -- the entry is a kept node
   nodes_some : 1 ≤ length kept.nodes
   nodes_some = go kept.nodes can.entry
     where
@@ -74,6 +76,7 @@ module _ (code : List ℕ) (some : 1 ≤ length code) (few : length code ≤ 655
       go [] e = absurd (cc)
       go (c ∷ nodes) e = omega arith
 
+  -- the parts of so few nodes fit below the code
   room : HasRoom decode_first (code_image code) kept
   room =
       rw (sites-first (code_region code ∷ []) kept.nodes, site_edges-first (code_region code ∷ []) kept.edges)

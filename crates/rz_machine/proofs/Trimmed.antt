@@ -1,5 +1,5 @@
 -- A fragment's items: spelled at their places, without a last jump to what follows, they do what the instruction needs.
-use Rattle.std.proofs.Common.{◌≡◌, ℕ, suc, ◌+◌, ◌^◌, ◌<◌, ◌≤◌, Bool, true, false, if◌then◌else◌, ◌==◌, List, [], ◌∷◌, ◌++◌, map, Option, Some, None, refl, sym, ap, ◌∙◌, subst, arith, eqb-true}
+use Rattle.std.proofs.Common.{◌≡◌, ℕ, ◌+◌, ◌^◌, ◌<◌, ◌≤◌, Bool, true, false, if◌then◌else◌, List, [], ◌∷◌, ◌++◌, map, Option, Some, None, refl, sym, ap, ◌∙◌, subst, arith, eqb-true}
 use Rattle.rz_machine.specs.declared.insn.Insn.{Insn}
 use Rattle.rz_machine.specs.declared.insn.Insn.TheVariants as insn
 use Rattle.rz_machine.specs.declared.items.Label.{Label}
