@@ -9,9 +9,8 @@ pub mod layout;
 pub mod making;
 pub mod rewrite;
 pub mod status;
+#[cfg(test)]
+mod tests;
 pub mod texts;
 pub mod tool;
 pub mod words;
-
-#[cfg(test)]
-mod tests;

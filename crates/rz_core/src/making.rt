@@ -87,7 +87,12 @@ fn write_new(alloc: Global, elf: &Elf, kept: &Record) -> Result<Made, OutOfMemor
 }
 
 // The report, where no site is kept.
-fn report_bytes(alloc: Global, added: u64, edges: u64, instructions: u64) -> Result<Bytes, OutOfMemory>
+fn report_bytes(
+    alloc: Global,
+    added: u64,
+    edges: u64,
+    instructions: u64,
+) -> Result<Bytes, OutOfMemory>
     ensures { IfOk result (λ bytes. bytes ≡ report_text added edges instructions 0 0) }
 {
     let text = texts::report(alloc, added, edges, instructions, 0, 0)?;

@@ -68,7 +68,9 @@ pub fn refusal(alloc: Global, status: &Status) -> Result<String, AllocError>
             format!(in alloc; "refused {file} {fault}\n")
         }
         Status::BadInput { input, line } => format!(in alloc; "bad input {input} {line}\n"),
-        Status::LeftCode { input, address } => format!(in alloc; "left code {input} 0x{address:x}\n"),
+        Status::LeftCode { input, address } => format!(in alloc;
+            "left code {input} 0x{address:x}\n"
+        ),
         Status::ReadFault { file } => {
             let file = file.as_slice();
             format!(in alloc; "read fault {file}\n")

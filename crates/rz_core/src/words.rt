@@ -23,8 +23,7 @@ pub fn form(words: &Vec<Text>) -> Option<Debloat<'_>>
 {
     match words.as_slice() {
         [command, exe, classes, level, limit, out, input]
-            if is_debloat(command, exe, classes, level, limit, out, input) =>
-        {
+            if is_debloat(command, exe, classes, level, limit, out, input) => {
             Some(Debloat {
                 exe,
                 limit: value(limit.as_slice().as_bytes()),
@@ -93,7 +92,9 @@ fn value(digits: &[u8]) -> u64
 {
     let mut n = 0u64;
     for c in digits {
-        n = n.saturating_mul(10).saturating_add(c.saturating_sub(48) as u64);
+        n = n
+            .saturating_mul(10)
+            .saturating_add(c.saturating_sub(48) as u64);
     }
     n
 }

@@ -15,12 +15,11 @@ pub mod kinds;
 pub mod law;
 pub mod machine;
 pub mod memory;
-pub mod start;
 pub mod segment;
+pub mod start;
 pub mod sys;
 pub mod table;
 pub mod thin;
 pub mod trace;
-
 #[cfg(test)]
 mod trace_tests;

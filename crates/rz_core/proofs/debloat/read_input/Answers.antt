@@ -9,6 +9,10 @@ returns-then-is_empty-clause-read g c = λ told.
     r.1 ∙ ap Some (empty_whole 16777217 r.0 c.in_ok-bytes.bytes max r.2 (none_of c.is_empty.result c.as_slice.result.now c.in_ok-bytes.bytes c.as_slice.ensures.value c.is_empty.ensures c.if-is_empty.true))
 
 pub returns-clause-cause : goal.returns-clause-cause
-returns-clause-cause g c = (refl, refl, λ told.
-    let r = c.in_ok-bytes.ensures.read told in
-    (r.0, r.1, some_whole 16777217 r.0 c.in_ok-bytes.bytes r.2 (some_of c.is_empty.result c.as_slice.result.now c.in_ok-bytes.bytes c.as_slice.ensures.value c.is_empty.ensures c.if-is_empty.false)))
+returns-clause-cause g c = (
+  refl,
+  refl,
+  λ told.
+      let r = c.in_ok-bytes.ensures.read told in
+      (r.0, r.1, some_whole 16777217 r.0 c.in_ok-bytes.bytes r.2 (some_of c.is_empty.result c.as_slice.result.now c.in_ok-bytes.bytes c.as_slice.ensures.value c.is_empty.ensures c.if-is_empty.false)),
+)
