@@ -83,12 +83,13 @@ fn answer(
     Ok((number(&status), text, written))
 }
 
-// The written file of the greeting, by its five loads and its entry.
-fn greeting_elf(rt: &impl Abort, alloc: Global, bytes: Bytes) -> Result<Elf, OutOfMemory>
+// A written file of one page of code and one of stubs, by its five loads and its entry.
+fn written_elf(rt: &impl Abort, alloc: Global, bytes: Bytes, size: u64) -> Result<Elf, OutOfMemory>
+    requires { size ≤ 4096 }
     ensures { IfOk result IsLoadable }
 {
     assert!(rt; bytes.as_slice().len() == 24_576);
-    let none = Perm {
+    let open = Perm {
         read: true,
         write: true,
         execute: false,
@@ -104,11 +105,11 @@ fn greeting_elf(rt: &impl Abort, alloc: Global, bytes: Bytes) -> Result<Elf, Out
         execute: false,
     };
     let mut loads = Vec::new(alloc);
-    loads.push(load(0x3f_d000, 4096, 0, 0, none, 0))?;
+    loads.push(load(0x3f_d000, 4096, 0, 0, open, 0))?;
     loads.push(load(0x3f_e000, 4096, 12_288, 4096, data, 1))?;
     loads.push(load(0x3f_f000, 4096, 16_384, 4096, code, 2))?;
     loads.push(load(0x40_0000, 4096, 20_480, 4096, code, 3))?;
-    loads.push(load(0x40_1000, 37, 8192, 37, data, 4))?;
+    loads.push(load(0x40_1000, size, 8192, size, data, 4))?;
     Ok(Elf {
         bytes,
         loads: Loads::from_vec(loads),
@@ -140,7 +141,7 @@ fn writes_hi(rt: HostRuntime) -> Result<(), Fail> {
     assert_eq!(rt; status, 0);
     assert_eq!(rt; text.as_slice(), REPORT);
     let old = read_thin(alloc, thin(alloc, &GREETING)?)?;
-    let new = greeting_elf(&rt, alloc, w)?;
+    let new = written_elf(&rt, alloc, w, 37)?;
     let mut x = start(alloc, &old, &Input::empty(alloc))?;
     let mut y = start(alloc, &new, &Input::empty(alloc))?;
     x.run::<First>(alloc, 100)?;
@@ -154,5 +155,133 @@ fn writes_hi(rt: HostRuntime) -> Result<(), Fail> {
         assert_eq!(rt; events[0].bytes.as_slice(), b"hi\n".as_slice());
         assert_eq!(rt; events[1].number, 60);
     }
+    Ok(())
+}
+
+#[test]
+fn cut_at_the_limit(rt: HostRuntime) -> Result<(), Fail> {
+    let alloc = rt.alloc();
+    let code = [0xbf, 7, 0, 0, 0];
+    let e = thin(alloc, &code)?;
+    let line = "debloat e - exact 1 w i";
+    let (status, text, w) = answer(&rt, alloc, line, e, &[], Vec::new(alloc))?;
+    assert_eq!(rt; status, 0);
+    let report =
+        b"{\"added\":\"0x3fd000\",\"edges\":0,\"instructions\":1,\"site_edges\":0,\"sites\":0}\n";
+    assert_eq!(rt; text.as_slice(), report.as_slice());
+    let new = written_elf(&rt, alloc, w, 5)?;
+    let mut y = start(alloc, &new, &Input::empty(alloc))?;
+    y.run::<First>(alloc, 100)?;
+    assert!(rt; y.end == Some(End::Illegal(0x40_0000)));
+    assert_eq!(rt; y.cpu.regs[7], 7);
+    Ok(())
+}
+
+#[test]
+fn refusals_name_their_cause(rt: HostRuntime) -> Result<(), Fail> {
+    let alloc = rt.alloc();
+    let e = thin(alloc, &[0xbf, 7, 0, 0, 0])?;
+    let (status, text, _) = answer(
+        &rt,
+        alloc,
+        "debloat e - exact 1000 w i",
+        e,
+        &[],
+        Vec::new(alloc),
+    )?;
+    assert_eq!(rt; status, 5);
+    assert_eq!(rt; text.as_slice(), b"left code 1 0x401005\n".as_slice());
+    let e = Bytes::from_slice(alloc, &HEADERS[..63])?;
+    let (status, text, _) = answer(
+        &rt,
+        alloc,
+        "debloat e - exact 1000 w i",
+        e,
+        &[],
+        Vec::new(alloc),
+    )?;
+    assert_eq!(rt; status, 2);
+    assert_eq!(rt; text.as_slice(), b"refused e Unbuilt\n".as_slice());
+    let e = thin(alloc, &GREETING)?;
+    let (status, text, _) = answer(
+        &rt,
+        alloc,
+        "debloat e - exact 1000 w i",
+        e,
+        b"#",
+        Vec::new(alloc),
+    )?;
+    assert_eq!(rt; status, 3);
+    assert_eq!(rt; text.as_slice(), b"bad input 1 1\n".as_slice());
+    let e = thin(alloc, &GREETING)?;
+    let (status, text, _) = answer(
+        &rt,
+        alloc,
+        "debloat e - exact 1000 w n",
+        e,
+        &[],
+        Vec::new(alloc),
+    )?;
+    assert_eq!(rt; status, 8);
+    assert_eq!(rt; text.as_slice(), b"read fault n\n".as_slice());
+    Ok(())
+}
+
+#[test]
+fn words_of_no_form(rt: HostRuntime) -> Result<(), Fail> {
+    let alloc = rt.alloc();
+    for line in [
+        "",
+        "debloat e - exact 0 w i",
+        "debloat e - Exact 1 w i",
+        "check e",
+    ] {
+        let (status, text, _) = answer(&rt, alloc, line, Bytes::new(alloc), &[], Vec::new(alloc))?;
+        assert_eq!(rt; status, 1);
+        assert_eq!(rt; text.as_slice(), b"usage\n".as_slice());
+    }
+    Ok(())
+}
+
+#[test]
+fn failing_calls(rt: HostRuntime) -> Result<(), Fail> {
+    let alloc = rt.alloc();
+    let line = "debloat e - exact 1000 w i";
+    let e = thin(alloc, &GREETING)?;
+    let (status, text, w) = answer(&rt, alloc, line, e, &[], vec![in alloc; 3]?)?;
+    assert_eq!(rt; status, 9);
+    assert_eq!(rt; text.as_slice(), b"write fault file\n".as_slice());
+    assert_eq!(rt; w.as_slice().len(), 12_288);
+    let files = files(alloc, thin(alloc, &GREETING)?, &[])?;
+    assert!(rt; has_distinct_names(files.as_slice()));
+    let mut store = PlainStore::new(alloc, files)?;
+    let mut out = MemSink::new(alloc, vec![in alloc; 1]?)?;
+    let status = run_tool(alloc, &words(alloc, line)?, &mut store, &mut out);
+    assert_eq!(rt; number(&status), 9);
+    assert_eq!(rt; out.as_slice(), &REPORT[..REPORT.len() / 2]);
+    assert_eq!(rt; store.get("w").map(|w| w.len()), Some(24_576));
+    Ok(())
+}
+
+#[test]
+fn plain_stores_and_sinks_get_the_same(rt: HostRuntime) -> Result<(), Fail> {
+    let alloc = rt.alloc();
+    let line = "debloat e - exact 1000 w i";
+    let (_, _, w) = answer(
+        &rt,
+        alloc,
+        line,
+        thin(alloc, &GREETING)?,
+        &[],
+        Vec::new(alloc),
+    )?;
+    let files = files(alloc, thin(alloc, &GREETING)?, &[])?;
+    assert!(rt; has_distinct_names(files.as_slice()));
+    let mut store = PlainStore::new(alloc, files)?;
+    let mut out = PlainSink::new(alloc);
+    let status = run_tool(alloc, &words(alloc, line)?, &mut store, &mut out);
+    assert_eq!(rt; number(&status), 0);
+    assert_eq!(rt; out.as_slice(), REPORT);
+    assert_eq!(rt; store.get("w"), Some(w.as_slice()));
     Ok(())
 }
