@@ -6,9 +6,8 @@ use rz_core::tool::run_tool;
 use rz_num::Text;
 use rz_outside::{DirStore, OutSink};
 use std::alloc::{AllocError, Global};
-use std::io;
 use std::process::ExitCode;
-use std::rt::{Alloc, Env};
+use std::{env, io};
 
 /// Where the runtime gives no words.
 const NO_WORDS: u8 = 100;
@@ -16,7 +15,7 @@ const NO_WORDS: u8 = 100;
 // The words after the program's name.
 fn words(rt: &HostRuntime, alloc: Global) -> io::Result<Vec<Text>> {
     let mut words = Vec::new(alloc);
-    for arg in std::env::args(rt)?.skip(1) {
+    for arg in env::args(rt)?.skip(1) {
         let Ok(word) = Text::from_slice(alloc, arg.as_str()) else {
             return Err(io::Error::from(AllocError));
         };
