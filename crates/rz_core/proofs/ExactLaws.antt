@@ -14,6 +14,7 @@ use Rattle.rz_core.specs.declared.status.Target.TheVariants as target
 use Rattle.rz_core.specs.Words.{Debloat}
 use Rattle.rz_core.specs.Debloated.{traced}
 use Rattle.rz_core.specs.Causes.{StoreCalls, SinkCalls, HoldsThin, AreRead, ReadCause, IsReadName, CauseOf, HasCause}
+use Rattle.rz_core.specs.Headline.{Headline}
 use Rattle.rz_core.specs.Exact.{IsQuiet, Gives, IsExact, AnswersExactly}
 
 -- a name holds one content
@@ -110,3 +111,17 @@ answers_exactly d s k answer h quiet =
       left_code = λ x a read left. left_code d s k x a quiet read left answer h;
       complete = λ x read stays. complete d s k x quiet read stays answer h;
     }
+
+-- the headline, from the cause of Ok
+pub headline : (d : Debloat) (s : StoreCalls) (k : SinkCalls) (answer : Status) → CauseOf d s k answer → Headline (Some d) s answer
+headline d s k status.Ok h = λ told.
+    let done = h told in
+    let new = done.new in
+    record { x = done.x; w = done.w; exe = new.0.exe.there; input = new.0.input; out = done.out; keeps = new.1.keeps; inert = new.1.inert; uncut = new.1.uncut }
+headline d s k (status.WriteFault target) h = tt
+headline d s k (status.Refused file why) h = tt
+headline d s k (status.BadInput n line) h = tt
+headline d s k (status.LeftCode n address) h = tt
+headline d s k (status.ReadFault file) h = tt
+headline d s k status.OutOfMemory h = tt
+headline d s k status.Usage h = tt

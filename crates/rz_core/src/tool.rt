@@ -7,6 +7,7 @@ ghost use Rattle.rz_core.specs.Words.{form_of};
 ghost use Rattle.rz_core.specs.Texts.{refusal_text};
 ghost use Rattle.rz_core.specs.Commands.{words_of};
 ghost use Rattle.rz_core.specs.Exact.{AnswersExactly};
+ghost use Rattle.rz_core.specs.Headline.{Headline};
 ghost use Rattle.rz_core.specs.Causes.{CauseOf, HasCause, FilesAfterForm, FilesAfter, SinkAfter, PutAfter, RefusedAfter};
 
 use crate::debloat::debloat;
@@ -80,6 +81,7 @@ pub fn run_tool<S: Store, K: Sink>(
     ensures telling { S.told store.new ≡ S.told store.old }
     ensures store_count { S.faults store.old ≤ S.faults store.new }
     ensures sink_count { K.faults out.old ≤ K.faults out.new }
+    ensures headline { Headline (form_of words.now.items) (record { told = S.told store.old; old = S.files store.old; new = S.files store.new; before = S.faults store.old; now = S.faults store.new; failed = S.failed_name store.new }) result }
     ensures cause { HasCause (form_of words.now.items) (record { told = S.told store.old; old = S.files store.old; new = S.files store.new; before = S.faults store.old; now = S.faults store.new; failed = S.failed_name store.new }) (record { old = K.written out.old; new = K.written out.new; before = K.faults out.old; now = K.faults out.new }) result }
     ensures exact { AnswersExactly (form_of words.now.items) (record { told = S.told store.old; old = S.files store.old; new = S.files store.new; before = S.faults store.old; now = S.faults store.new; failed = S.failed_name store.new }) (record { old = K.written out.old; new = K.written out.new; before = K.faults out.old; now = K.faults out.new }) result }
     ensures files { FilesAfter (form_of words.now.items) (record { told = S.told store.old; old = S.files store.old; new = S.files store.new; before = S.faults store.old; now = S.faults store.new; failed = S.failed_name store.new }) result }
