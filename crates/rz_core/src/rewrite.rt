@@ -4,15 +4,15 @@ ghost use Rattle.std.specs.Prelude.{◌≡◌, ◌+◌, ◌-◌, ◌*◌, ◌^�
 ghost use Rattle.rz_machine.specs.Memory.{zeros};
 ghost use Rattle.rz_machine.specs.Added.{added, all_stubs, filled as filled_with};
 ghost use Rattle.rz_machine.specs.First.{decode_first};
-ghost use Rattle.rz_machine.specs.Fragments.{fragments, fragments_bytes};
+ghost use Rattle.rz_machine.specs.Fragments.{fragments_bytes};
 ghost use Rattle.rz_machine.specs.Keeps.{Keeps};
 ghost use Rattle.rz_machine.specs.Loaded.{loaded, thin_elf, IsLoadable};
 ghost use Rattle.rz_machine.specs.PlainImage.{IsPlainImage};
 ghost use Rattle.rz_machine.specs.Rewritable.{IsRewritable};
-ghost use Rattle.rz_machine.specs.Rewritten.{HasRoom, IsRewritten, place_of};
+ghost use Rattle.rz_machine.specs.Rewritten.{HasRoom, IsRewritten, fragments_of as frags_of, place_of};
 ghost use Rattle.rz_machine.specs.Thin.{IsThin};
 ghost use Rattle.rz_machine.specs.WrittenFile.{written_file, Inert};
-ghost use Rattle.rz_core.specs.NewParts.{new_parts_of};
+ghost use Rattle.rz_core.specs.NewParts.{range_of, new_parts_of};
 ghost use Rattle.rz_core.specs.Places.{address_in, total_len};
 ghost use Rattle.rz_core.specs.Spellable.{IsFragmentSpellable};
 
@@ -25,7 +25,7 @@ use rz_machine::elf_write::{Parts, write_elf};
 use rz_machine::items::{Fragment, Label};
 use rz_machine::memory::Memory;
 use rz_machine::start::load_regions;
-use rz_machine::trace::{EdgeSet, Record};
+use rz_machine::trace::Record;
 use rz_num::{Bytes, OutOfMemory};
 use std::alloc::Global;
 
@@ -78,9 +78,8 @@ pub fn new_parts(alloc: Global, elf: &Elf, kept: &Record) -> Result<NewParts, Ou
 {
     let words = kept.nodes.to_words(alloc)?;
     let nodes = words.as_slice();
-    let lowest = lowest_load(elf.loads.as_slice());
-    let range = parts_below(nodes.len() as u64, page_floor(lowest));
-    let fragments = file_fragments(alloc, elf, nodes, &kept.edges)?;
+    let range = new_range(elf, kept);
+    let fragments = kept_fragments(alloc, elf, kept, nodes)?;
     let list = fragments.as_slice();
     let layout = lay_out(alloc, list, range.code, range.stubs)?;
     let parts = emit_parts(alloc, list, nodes, &layout, &range)?;
@@ -88,20 +87,34 @@ pub fn new_parts(alloc: Global, elf: &Elf, kept: &Record) -> Result<NewParts, Ou
     Ok(NewParts { parts, entry })
 }
 
-// The fragments of nodes of a file.
-fn file_fragments(
+// Where the parts of what is kept lie.
+fn new_range(elf: &Elf, kept: &Record) -> AddedRange
+    requires plain { IsPlainImage (loaded elf.now) }
+    requires rewritable { IsRewritable decode_first (loaded elf.now) kept.now }
+    requires room { HasRoom decode_first (loaded elf.now) kept.now }
+    ensures { range_of result ≡ added decode_first (loaded elf.now) kept.now }
+{
+    let lowest = lowest_load(elf.loads.as_slice());
+    parts_below(kept.nodes.len() as u64, page_floor(lowest))
+}
+
+// The fragments of what is kept, whose nodes are these.
+fn kept_fragments(
     alloc: Global,
     elf: &Elf,
+    kept: &Record,
     nodes: &[u64],
-    edges: &EdgeSet,
 ) -> Result<Fragments, OutOfMemory>
     requires loadable { IsLoadable elf.now }
-    requires low { All (λ a. a < 2 ^ 31) nodes.now }
-    ensures value { IfOk result (λ list. list ≡ fragments decode_first (loaded elf.now).loads edges.now nodes.now) }
+    requires plain { IsPlainImage (loaded elf.now) }
+    requires rewritable { IsRewritable decode_first (loaded elf.now) kept.now }
+    requires room { HasRoom decode_first (loaded elf.now) kept.now }
+    requires nodes { nodes.now ≡ kept.now.nodes }
+    ensures value { IfOk result (λ list. list ≡ frags_of decode_first (loaded elf.now) kept.now) }
     ensures spellable { IfOk result (λ list. All IsFragmentSpellable list) }
 {
     let memory = Memory::new(load_regions(alloc, elf)?);
-    fragments_of(alloc, &memory, nodes, edges)
+    fragments_of(alloc, &memory, nodes, &kept.edges)
 }
 
 // The parts of these fragments and stubs.
