@@ -1,6 +1,5 @@
 -- The worked program, evaluated: it writes three bytes and exits.
-use Rattle.std.proofs.Common.{◌≡◌, ℕ, List, [], ◌∷◌, ◌++◌, Some, None, refl, drop}
-use Rattle.rz_num.specs.declared.width.Width.TheVariants.{W32}
+use Rattle.std.proofs.Common.{◌≡◌, [], ◌∷◌, Some, refl, drop}
 use Rattle.rz_machine.specs.declared.insn.Insn.TheVariants as insn
 use Rattle.rz_machine.specs.declared.decode.Decoded.TheVariants as decoded
 use Rattle.rz_machine.specs.declared.machine.End.TheVariants as end

@@ -1,10 +1,9 @@
 -- What is loaded.
-use Rattle.std.proofs.Common.{◌≡◌, ℕ, zero, suc, ◌+◌, ◌-◌, ◌^◌, ◌<◌, ◌≤◌, List, [], ◌∷◌, ◌++◌, length, get_or, take, drop, map, refl, sym, ap, ap₂, ◌∙◌, arith, length-append, length-drop, append-nil}
+use Rattle.std.proofs.Common.{◌≡◌, ℕ, zero, suc, ◌+◌, ◌-◌, ◌<◌, List, [], ◌∷◌, ◌++◌, length, get_or, take, drop, map, refl, ap, ◌∙◌, arith, length-append, length-drop, append-nil}
 use Rattle.std.specs.List.{AllByRecursion}
 use Rattle.std.proofs.lemmas.List.{length-take-le}
 use Rattle.rz_machine.specs.declared.elf.Load.{Load}
 use Rattle.rz_machine.specs.declared.elf.Elf.{Elf}
-use Rattle.rz_machine.specs.declared.memory.Region.{Region}
 use Rattle.rz_machine.specs.Memory.{Regions, RegionsFit, zeros}
 use Rattle.rz_machine.specs.Start.{heap_region, stack_region, stack_bytes, first_rsp, empty_input}
 use Rattle.rz_machine.specs.Loaded.{loaded_region, IsLoad, IsLoadable}

@@ -1,5 +1,5 @@
 -- What a trace records can be rewritten, and its own run has no cut.
-use Rattle.std.proofs.Common.{◌≡◌, ℕ, zero, suc, ◌+◌, ◌-◌, ◌<◌, ◌≤◌, ◌⊎◌, inl, inr, ⊎_elim, Bool, true, false, ◌&&◌, ◌||◌, ◌==◌, List, [], ◌∷◌, ◌++◌, Option, Some, None, refl, sym, ap, ◌∙◌, subst, arith, eq-eqb}
+use Rattle.std.proofs.Common.{◌≡◌, ℕ, zero, suc, ◌-◌, ◌<◌, ◌≤◌, ◌⊎◌, inl, inr, ⊎_elim, Bool, true, false, ◌&&◌, ◌||◌, ◌==◌, List, [], ◌∷◌, ◌++◌, Option, Some, None, refl, sym, ap, ◌∙◌, subst, arith, eq-eqb}
 use Rattle.std.proofs.lemmas.Bool.{or_left, or_right, cases_lt}
 use Rattle.rz_machine.specs.declared.machine.End.{End}
 use Rattle.rz_machine.specs.declared.machine.Machine.{Machine}
@@ -11,9 +11,8 @@ use Rattle.rz_machine.specs.Insn.{Decoder}
 use Rattle.rz_machine.specs.State.{step, after}
 use Rattle.rz_machine.specs.Start.{start}
 use Rattle.rz_machine.specs.Begun.{begun_at, begun, neighbours, with_nodes, with_edges, recorded}
-use Rattle.rz_machine.specs.Nodes.{IsNode, is_site_at, direct_at}
-use Rattle.rz_machine.specs.Keeps.{Edges, has_edge, IsCut, NoCut}
-use Rattle.rz_machine.specs.Rewritable.{has_node, IsAscending, IsRewritable}
+use Rattle.rz_machine.specs.Keeps.{Edges, has_edge, NoCut}
+use Rattle.rz_machine.specs.Rewritable.{has_node, IsRewritable}
 use Rattle.rz_machine.specs.LeftCode.{left_at, StaysInCode}
 use Rattle.rz_machine.specs.Traced.{with_run}
 use Rattle.rz_machine.specs.Recorded.{StandsIn, IsUncut}

@@ -1,10 +1,9 @@
 -- The code of a state at the start is that of the loads.
-use Rattle.std.proofs.Common.{◌≡◌, ℕ, ◌-◌, ◌<◌, ◌⊎◌, inl, inr, ⊎_elim, Bool, true, false, ◌&&◌, if◌then◌else◌, nat_lt, List, [], ◌∷◌, ◌++◌, refl, ap, sym, ◌∙◌}
+use Rattle.std.proofs.Common.{◌≡◌, ℕ, ◌-◌, ◌⊎◌, inl, inr, ⊎_elim, Bool, true, false, ◌&&◌, if◌then◌else◌, nat_lt, [], ◌∷◌, ◌++◌, refl, ap, sym, ◌∙◌}
 use Rattle.std.specs.List.{AllByRecursion}
 use Rattle.rz_machine.specs.declared.memory.Cell.{Cell}
-use Rattle.rz_machine.specs.declared.memory.Region.{Region}
 use Rattle.rz_machine.specs.declared.sys.Input.{Input}
-use Rattle.rz_machine.specs.Memory.{Regions, no_cell, contains, cell_in, cell_at, code_of, NoSelfWritten, SameCode}
+use Rattle.rz_machine.specs.Memory.{Regions, no_cell, contains, cell_in, cell_at, code_of, NoSelfWritten}
 use Rattle.rz_machine.specs.Elf.{Image}
 use Rattle.rz_machine.specs.Start.{start, heap_region, stack_region}
 use Rattle.rz_machine.proofs.CodeLaws.{HasCode}

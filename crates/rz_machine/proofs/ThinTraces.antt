@@ -1,11 +1,10 @@
 -- What is traced of a thin file can be rewritten.
-use Rattle.std.proofs.Common.{◌≡◌, ℕ, ◌≤◌, true, false, List, [], ◌∷◌, refl, sym, ap, ◌∙◌, subst}
+use Rattle.std.proofs.Common.{◌≡◌, ℕ, ◌≤◌, List, [], sym, subst}
 use Rattle.rz_machine.specs.declared.elf.Elf.{Elf}
 use Rattle.rz_machine.specs.declared.trace.Record.{Record}
-use Rattle.rz_machine.specs.Memory.{Regions, NoSelfWritten}
+use Rattle.rz_machine.specs.Memory.{NoSelfWritten}
 use Rattle.rz_machine.specs.Elf.{Image, image_of}
 use Rattle.rz_machine.specs.Insn.{Decoder}
-use Rattle.rz_machine.specs.Thin.{IsThin}
 use Rattle.rz_machine.specs.Loaded.{loaded, thin_elf}
 use Rattle.rz_machine.specs.Recorded.{StandsIn}
 use Rattle.rz_machine.specs.Rewritable.{IsRewritable}

@@ -1,5 +1,5 @@
 -- What a run begins: its instructions stand in the file, and its edges are what the instructions lead to.
-use Rattle.std.proofs.Common.{◌≡◌, ℕ, zero, suc, ◌+◌, ◌-◌, ◌<◌, ◌≤◌, ◌⊎◌, inl, inr, ⊎_elim, Bool, true, false, ◌&&◌, ◌||◌, ◌==◌, List, [], ◌∷◌, ◌++◌, Option, Some, None, Result, Ok, Err, refl, sym, ap, ◌∙◌, subst, arith, eqb-true, eq-eqb}
+use Rattle.std.proofs.Common.{◌≡◌, ℕ, zero, suc, ◌+◌, ◌⊎◌, inl, inr, ⊎_elim, Bool, true, false, ◌&&◌, ◌||◌, ◌==◌, List, [], ◌∷◌, ◌++◌, Option, Some, None, Result, Ok, Err, refl, sym, ap, ◌∙◌, subst, eqb-true, eq-eqb}
 use Rattle.std.proofs.lemmas.Bool.{and_parts, or_left, or_right}
 use Rattle.rz_machine.specs.declared.flags.Flags.{Flags}
 use Rattle.rz_machine.specs.declared.insn.Place.TheVariants as place
@@ -12,7 +12,7 @@ use Rattle.rz_machine.specs.declared.decode.Decoded.TheVariants as decoded
 use Rattle.rz_machine.specs.declared.machine.End.{End}
 use Rattle.rz_machine.specs.declared.machine.End.TheVariants as end
 use Rattle.rz_machine.specs.declared.machine.Machine.{Machine}
-use Rattle.rz_machine.specs.Memory.{Regions, fetch, wrap, refused, is_writable}
+use Rattle.rz_machine.specs.Memory.{Regions, wrap, refused, is_writable}
 use Rattle.rz_machine.specs.Insn.{Decoder, kind_of, is_site, direct}
 use Rattle.rz_machine.specs.Effect.{Access, Effect, Outcome, Goes, Stops, Done, Went, Stopped, effect, carry, carry_out, after_reads, stored, read_words}
 use Rattle.rz_machine.specs.Answer.{Called, answer}
@@ -21,7 +21,7 @@ use Rattle.rz_machine.specs.Begun.{begun_by, begun_at, begun, neighbours}
 use Rattle.rz_machine.specs.Nodes.{IsNode, spelled_at, is_site_at, direct_at}
 use Rattle.rz_machine.specs.Keeps.{has_edge}
 use Rattle.rz_machine.specs.Rewritable.{has_node}
-use Rattle.rz_machine.specs.LeftCode.{left_at, LeavesCode, StaysInCode}
+use Rattle.rz_machine.specs.LeftCode.{left_at}
 use Rattle.rz_machine.proofs.CodeLaws.{HasCode, fetch_same, step_code}
 
 -- an instruction's own ends

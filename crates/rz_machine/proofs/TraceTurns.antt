@@ -1,12 +1,11 @@
 -- One more step of a run that is traced.
-use Rattle.std.proofs.Common.{◌≡◌, ℕ, zero, suc, ◌+◌, ◌-◌, ◌<◌, ◌≤◌, ◌⊎◌, inl, inr, ⊎_elim, true, false, List, [], ◌∷◌, ◌++◌, Option, Some, None, is_some, Result, Ok, Err, IfErr, refl, sym, ap, ap₂, ◌∙◌, subst, arith, add-one}
+use Rattle.std.proofs.Common.{◌≡◌, ℕ, zero, suc, ◌+◌, ◌<◌, ◌≤◌, true, false, List, [], ◌∷◌, ◌++◌, Option, Some, None, is_some, Result, Ok, Err, IfErr, refl, sym, ap, ap₂, ◌∙◌, subst, arith, add-one}
 use Rattle.std.proofs.lemmas.List.{append_assoc, append-nil}
 use Rattle.std.proofs.lemmas.List.Sums.{fold-append}
 use Rattle.std.specs.Result.{IsErrAnd}
 use Rattle.std.specs.Ordering.{nat_cmp}
 use Rattle.std.specs.BTreeSet.{insert_key}
 use Rattle.rz_machine.specs.declared.machine.End.{End}
-use Rattle.rz_machine.specs.declared.machine.End.TheVariants as end
 use Rattle.rz_machine.specs.declared.machine.Machine.{Machine}
 use Rattle.rz_machine.specs.declared.trace.Record.{Record}
 use Rattle.rz_machine.specs.declared.trace.TraceRefusal.{TraceRefusal}
@@ -16,7 +15,7 @@ use Rattle.rz_machine.specs.State.{step, after, decoded_at}
 use Rattle.rz_machine.specs.Begun.{begun_by, begun_at, begun, neighbours, pair_cmp, with_nodes, with_edges}
 use Rattle.rz_machine.specs.LeftCode.{left_at, LeavesCode, StaysInCode}
 use Rattle.rz_machine.specs.Traced.{with_run, HasPart, IsRefused, edge_from, with_begun}
-use Rattle.rz_machine.proofs.TraceLaws.{begins, begins_nothing, begun_none, begun_ended}
+use Rattle.rz_machine.proofs.TraceLaws.{begins, begins_nothing, begun_none}
 use Rattle.rz_machine.proofs.RecordedLaws.{after_suc, ended_later}
 
 -- the instruction begun last

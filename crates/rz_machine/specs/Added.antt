@@ -1,7 +1,6 @@
 -- The added range: four parts below the lowest load, and what stands in the stubs.
-use Rattle.std.specs.Prelude.{ℕ, ◌+◌, ◌-◌, ◌*◌, ◌%◌, Bool, if◌then◌else◌, ◌==◌, List, [], ◌∷◌, ◌++◌, length, filter, flat_map, min, replicate}
+use Rattle.std.specs.Prelude.{ℕ, ◌+◌, ◌-◌, ◌*◌, ◌%◌, if◌then◌else◌, ◌==◌, List, [], ◌∷◌, ◌++◌, length, filter, flat_map, min, replicate}
 use Rattle.byteorder.specs.Endian.{little_bytes}
-use Rattle.rz_machine.specs.declared.memory.Region.{Region}
 use Rattle.rz_machine.specs.declared.trace.Record.{Record}
 use Rattle.rz_machine.specs.Memory.{Regions, Range}
 use Rattle.rz_num.specs.Page.{page_up}

@@ -1,7 +1,6 @@
 -- System calls: the number in RAX, the arguments in RDI, RSI and RDX
 -- (System V ABI for x86-64, section A.2.1, "Calling Conventions" of the kernel).
 use Rattle.std.specs.Prelude.{ℕ, ◌+◌, ◌-◌, ◌%◌, ◌^◌, ◌<◌, Bool, true, false, ◌||◌, if◌then◌else◌, nat_le, ◌==◌, List, [], ◌∷◌, ◌++◌, get_or, min, Option, Some, None}
-use Rattle.rz_machine.specs.declared.flags.Flags.{Flags}
 use Rattle.rz_machine.specs.declared.sys.Reply.{Reply}
 use Rattle.rz_machine.specs.declared.sys.Reply.TheVariants.{Full, AtMost, Error}
 use Rattle.rz_machine.specs.declared.sys.Event.{Event}

@@ -1,6 +1,6 @@
 -- ELF-64 files: their headers, the faults of a file, and what is loaded of an accepted one
 -- (System V gABI, chapter 4, "ELF Header", and chapter 5, "Program Header" and "Program Loading").
-use Rattle.std.specs.Prelude.{ℕ, zero, suc, ◌+◌, ◌-◌, ◌*◌, ◌/◌, ◌%◌, Bool, true, false, not, ◌&&◌, ◌||◌, if◌then◌else◌, nat_lt, nat_le, ◌==◌, List, [], ◌∷◌, ◌++◌, length, take, drop, map, filter, sum_by, max, nat_eq, Option, Some, None}
+use Rattle.std.specs.Prelude.{ℕ, zero, suc, ◌+◌, ◌-◌, ◌*◌, ◌/◌, ◌%◌, Bool, false, not, ◌&&◌, ◌||◌, if◌then◌else◌, nat_lt, nat_le, ◌==◌, List, [], ◌∷◌, ◌++◌, length, take, drop, map, filter, sum_by, max, nat_eq, Option, Some, None}
 use Rattle.std.specs.List.{list_any, starts_with}
 use Rattle.std.specs.Int.{is_power_of_two}
 use Rattle.byteorder.specs.Endian.{little_number}

@@ -1,6 +1,6 @@
 -- The first table: MOV of four bytes to a 32-bit register, JMP, SYSCALL and UD2, with no prefixes
 -- (Intel SDM, volume 2, "MOV" B8+rd id, "JMP" E9 cd, "SYSCALL" 0F 05, "UD2" 0F 0B).
-use Rattle.std.specs.Prelude.{◌≡◌, ◌≢◌, ℕ, ◌+◌, ◌-◌, ◌*◌, ◌/◌, ◌%◌, ◌^◌, ◌<◌, ◌≤◌, ◌⊎◌, Bool, ◌&&◌, if◌then◌else◌, nat_lt, nat_le, ◌==◌, List, [], ◌∷◌, ◌++◌, length, take}
+use Rattle.std.specs.Prelude.{◌≡◌, ℕ, ◌+◌, ◌-◌, ◌%◌, ◌^◌, ◌<◌, ◌&&◌, if◌then◌else◌, nat_le, ◌==◌, List, [], ◌∷◌}
 use Rattle.byteorder.specs.Endian.{little_bytes, little_number}
 use Rattle.rz_num.specs.declared.width.Width.TheVariants.{W32}
 use Rattle.rz_num.specs.Width.{half, extend}
@@ -73,11 +73,3 @@ HasSpelling (insn.Mov w (place.Reg (R r)) (Imm v)) at = (w ≡ W32) × (r < 8) �
 HasSpelling (insn.Jmp to) at = (at + 5 < 2 ^ 31) × (to < 2 ^ 31)
 HasSpelling insn.Syscall at = Unit {0}
 HasSpelling insn.Ud2 at = Unit {0}
-
--- the bytes begin a spelling and end inside it
-abbrev pub BeginsSpelling : List ℕ → ℕ → Type 0
-BeginsSpelling s at = (rest : List ℕ) × (rest ≢ []) × ((x : Insn) × Spells (s ++ rest) at x)
-
--- some front of the bytes is a spelling
-abbrev pub HasSpelledFront : List ℕ → ℕ → Type 0
-HasSpelledFront s at = (n : ℕ) × (n ≤ length s) × ((x : Insn) × Spells (take n s) at x)

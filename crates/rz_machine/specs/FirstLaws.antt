@@ -1,13 +1,10 @@
 -- The first table's decoder answers by its spellings, and reads back what is spelled canonically.
-use Rattle.std.proofs.Common.{◌≡◌, ◌≢◌, ℕ, ◌+◌, ◌-◌, ◌*◌, ◌/◌, ◌%◌, ◌^◌, ◌<◌, ◌≤◌, ◌⊎◌, inl, inr, ⊎_elim, Bool, true, false, ◌&&◌, if◌then◌else◌, nat_lt, nat_le, ◌==◌, eqb, leb, ltb, List, [], ◌∷◌, ◌++◌, length, take, refl, sym, ap, ap₂, ◌∙◌, subst, subst₂, arith, eqb-true, leb-true, ne_eqb, le-leb, lt-ltb, le-ltb, length-append}
+use Rattle.std.proofs.Common.{◌≡◌, ◌≢◌, ℕ, ◌+◌, ◌-◌, ◌*◌, ◌/◌, ◌%◌, ◌^◌, ◌<◌, ◌≤◌, ⊎_elim, true, false, ◌&&◌, if◌then◌else◌, nat_le, ◌==◌, eqb, leb, List, [], ◌∷◌, ◌++◌, length, take, refl, sym, ap, ap₂, ◌∙◌, subst, subst₂, arith, eqb-true, leb-true, ne_eqb, le-leb, lt-ltb, le-ltb, length-append}
 use Rattle.std.proofs.Math.Dec.{lit<, lit≤}
 use Rattle.std.proofs.Math.Nat.{mod-lt}
 use Rattle.std.proofs.lemmas.Bool.{cases_lt, cond-true, cond-false, cond_both, and_parts}
 use Rattle.byteorder.specs.Endian.{little_bytes, little_number}
 use Rattle.byteorder.specs.Numbers.{little_number-reads_back}
-use Rattle.rz_num.specs.declared.width.Width.{Width}
-use Rattle.rz_num.specs.declared.width.Width.TheVariants.{W32}
-use Rattle.rz_num.specs.Width.{half, extend}
 use Rattle.rz_machine.specs.declared.insn.Reg.TheVariants.{R}
 use Rattle.rz_machine.specs.declared.insn.Place.TheVariants as place
 use Rattle.rz_machine.specs.declared.insn.Operand.TheVariants.{Imm}
@@ -15,7 +12,6 @@ use Rattle.rz_machine.specs.declared.insn.Insn.{Insn}
 use Rattle.rz_machine.specs.declared.insn.Insn.TheVariants as insn
 use Rattle.rz_machine.specs.declared.decode.Decoded.{Decoded}
 use Rattle.rz_machine.specs.declared.decode.Decoded.TheVariants as decoded
-use Rattle.rz_machine.specs.Memory.{wrap}
 use Rattle.rz_machine.specs.First.{displaced, mov_number, Spells, spells_mov, spells_jmp, spells_syscall, spells_ud2, mov_of, jmp_of, second_of, decode_first, displacement, spelling, spelling_len, HasSpelling}
 use Rattle.rz_machine.specs.TableLaws.{AreBytes, Begins, NamesInsn, NamesInsns, SpelledWhereDecoded, DecodedWhereSpelled, BegunWhereShort, ShortWhereBegun}
 

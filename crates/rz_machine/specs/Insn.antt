@@ -9,7 +9,6 @@ use Rattle.rz_machine.specs.declared.insn.Insn.TheVariants as insn
 use Rattle.rz_machine.specs.declared.insn.Kind.{Kind}
 use Rattle.rz_machine.specs.declared.insn.Kind.TheVariants as kind
 use Rattle.rz_machine.specs.declared.decode.Decoded.{Decoded}
-use Rattle.rz_machine.specs.declared.decode.Decoded.TheVariants as decoded
 
 abbrev pub kind_of : Insn → Kind
 kind_of (insn.Mov w dst src) = kind.Plain

@@ -1,5 +1,5 @@
 -- The thin files: one load of code at 0x401000, with every header field fixed.
-use Rattle.std.specs.Prelude.{◌≡◌, ℕ, ◌≤◌, List, [], ◌∷◌, ◌++◌, length}
+use Rattle.std.specs.Prelude.{◌≡◌, ℕ, ◌≤◌, List, ◌∷◌, ◌++◌, length}
 use Rattle.byteorder.specs.Endian.{little_bytes}
 use Rattle.rz_machine.specs.Memory.{zeros}
 use Rattle.rz_machine.specs.Elf.{Segment}

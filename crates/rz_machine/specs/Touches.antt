@@ -1,5 +1,5 @@
 -- Which accesses a run makes: where it touches no byte of a range.
-use Rattle.std.specs.Prelude.{◌≡◌, ℕ, ◌<◌, Option, Some, None}
+use Rattle.std.specs.Prelude.{◌≡◌, ℕ, ◌<◌, None}
 use Rattle.rz_machine.specs.declared.insn.Insn.TheVariants as insn
 use Rattle.rz_machine.specs.declared.decode.Decoded.{Decoded}
 use Rattle.rz_machine.specs.declared.decode.Decoded.TheVariants as decoded

@@ -1,13 +1,13 @@
 -- The written file, byte for byte: a fresh header page, the original, and the added parts.
-use Rattle.std.specs.Prelude.{◌≡◌, ℕ, ◌+◌, ◌-◌, ◌*◌, ◌%◌, ◌<◌, ◌≤◌, Bool, ◌||◌, if◌then◌else◌, List, [], ◌∷◌, ◌++◌, length, map, filter, flat_map, min, false, true, None}
+use Rattle.std.specs.Prelude.{◌≡◌, ℕ, ◌+◌, ◌-◌, ◌*◌, ◌%◌, ◌<◌, ◌≤◌, ◌||◌, if◌then◌else◌, List, [], ◌∷◌, ◌++◌, length, map, filter, flat_map, min, false, true, None}
 use Rattle.byteorder.specs.Endian.{little_bytes}
 use Rattle.rz_num.specs.Page.{page_up}
 use Rattle.rz_machine.specs.declared.memory.Perm.{Perm}
 use Rattle.rz_machine.specs.declared.memory.Region.{Region}
 use Rattle.rz_machine.specs.declared.trace.Record.{Record}
 pub use Rattle.rz_machine.specs.declared.elf_write.Parts.{Parts}
-use Rattle.rz_machine.specs.Memory.{Regions, Range, IsInside, whole_region, zeros}
-use Rattle.rz_machine.specs.Elf.{Segment, segments, is_load, is_stack, has_flag, fault_of, Image, image_of}
+use Rattle.rz_machine.specs.Memory.{Regions, whole_region, zeros}
+use Rattle.rz_machine.specs.Elf.{Segment, segments, is_load, is_stack, fault_of, Image, image_of}
 use Rattle.rz_machine.specs.Insn.{Decoder}
 use Rattle.rz_machine.specs.Added.{Added, added, scratch_size, all_stubs, filled}
 

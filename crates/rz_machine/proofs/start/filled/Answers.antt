@@ -1,4 +1,4 @@
-use Rattle.std.proofs.Common.{◌≡◌, ◌++◌, ◌≤◌, ◌-◌, length, ap, ap₂, ◌∙◌, sym, refl, arith, take, replicate}
+use Rattle.std.proofs.Common.{◌≡◌, ◌++◌, ◌-◌, length, ap, ap₂, ◌∙◌, take, replicate}
 use Rattle.std.proofs.lemmas.List.{take_all}
 use Rattle.rz_machine.specs.Memory.{zeros}
 use Rattle.rz_machine.proofs.start.filled.Goals as goal

@@ -1,6 +1,4 @@
-use Rattle.std.proofs.Common.{◌≡◌, ◌++◌, [], ◌∷◌, ◌∙◌, ap, sym, subst, List, append_assoc}
-use Rattle.rz_machine.specs.declared.memory.Region.{Region}
-use Rattle.rz_machine.specs.Memory.{RegionsFit}
+use Rattle.std.proofs.Common.{append_assoc}
 use Rattle.rz_machine.proofs.Loads.{start_fits}
 use Rattle.rz_machine.proofs.start.start.Goals as goal
 

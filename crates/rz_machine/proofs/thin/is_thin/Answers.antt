@@ -1,4 +1,4 @@
-use Rattle.std.proofs.Common.{◌≡◌, ◌∙◌, ap, sym, true, false, arith}
+use Rattle.std.proofs.Common.{◌∙◌, sym, arith}
 use Rattle.rz_machine.proofs.ThinFiles.{thin_where_page, page_where_thin}
 use Rattle.rz_machine.proofs.thin.is_thin.Goals as goal
 

@@ -1,4 +1,4 @@
-use Rattle.std.proofs.Common.{◌≡◌, true, subst}
+use Rattle.std.proofs.Common.{subst}
 use Rattle.rz_machine.specs.Thin.{IsThin}
 use Rattle.rz_machine.proofs.ThinLoads.{thin_fault, loaded-thin_elf}
 use Rattle.rz_machine.proofs.thin.read_thin.Goals as goal

@@ -1,10 +1,4 @@
-use Rattle.std.proofs.Common.{◌≡◌, Result, Ok, Err, OnOk, IfErr, sym, subst}
-use Rattle.std.specs.Result.{IsErrAnd}
-use Rattle.rz_machine.specs.declared.machine.Machine.{Machine}
-use Rattle.rz_machine.specs.declared.trace.Record.{Record}
-use Rattle.rz_machine.specs.declared.trace.TraceRefusal.{TraceRefusal}
-use Rattle.rz_machine.specs.declared.trace.TraceRefusal.TheVariants as refusal
-use Rattle.rz_machine.specs.Traced.{IsRefused, HasPart}
+use Rattle.std.proofs.Common.{Result, Ok, Err, OnOk}
 use Rattle.rz_machine.proofs.TraceTurns.{no_memory, HasPart-nothing}
 use Rattle.rz_machine.proofs.RecordedLaws.{traced_rewritable, traced_uncut}
 use Rattle.rz_machine.proofs.trace.trace.Goals as goal

@@ -1,4 +1,4 @@
-use Rattle.std.proofs.Common.{◌≡◌, ◌∙◌, sym, ap, refl, arith}
+use Rattle.std.proofs.Common.{◌∙◌, sym, ap, refl, arith}
 use Rattle.rz_machine.specs.State.{step, after}
 use Rattle.rz_machine.proofs.RunTurns.{after-long, after-next}
 use Rattle.rz_machine.proofs.machine.Machine.run.Goals as goal

@@ -1,4 +1,4 @@
-use Rattle.std.proofs.Common.{sym, subst}
+use Rattle.std.proofs.Common.{subst}
 use Rattle.rz_machine.specs.Rewritable.{IsAscending}
 use Rattle.rz_machine.proofs.SetLaws.{IsAscending-from_sorted}
 use Rattle.rz_machine.proofs.trace.AddrSet.to_words.Goals as goal
