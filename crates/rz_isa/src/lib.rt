@@ -1,2 +1,12 @@
-//! Later.
+//! Instructions, the rows that spell them, and the trait of instruction tables.
 #![tactic(auto)]
+
+pub mod instruction;
+pub mod kinds;
+pub mod rows;
+pub mod spelled;
+
+pub use instruction::{BitIndex, Count, Insn, Kind, Mem, Operand, Place, Reg};
+pub use kinds::{kind, rip_target, target};
+pub use rows::{F3Rule, Form, ImmKind, Letter, Op, OpMap, RmRule, Row, Size};
+pub use spelled::Fields;
