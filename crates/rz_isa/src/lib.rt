@@ -5,8 +5,10 @@ pub mod instruction;
 pub mod kinds;
 pub mod rows;
 pub mod spelled;
+pub mod table;
 
 pub use instruction::{BitIndex, Count, Insn, Kind, Mem, Operand, Place, Reg};
 pub use kinds::{kind, rip_target, target};
 pub use rows::{F3Rule, Form, ImmKind, Letter, Op, OpMap, RmRule, Row, Size};
 pub use spelled::Fields;
+pub use table::InsnTable;

@@ -1,0 +1,27 @@
+ghost use Rattle.std.specs.Prelude.{◌≡◌, ◌<◌, List, length, slice_get, Some, IsTrue};
+ghost use Rattle.std.specs.List.{list_all};
+ghost use Rattle.rz_isa.specs.declared.rows.Row.{Row};
+ghost use Rattle.rz_isa.specs.Table.{is_plain, all_exclude};
+
+use crate::rows::Row;
+
+/// An instruction table: its rows by their numbers.
+pub trait InsnTable {
+    /// The rows, in their order.
+    ghost rows: { List Row };
+
+    /// How many rows there are.
+    fn count() -> usize
+        ensures { result ≡ length rows };
+
+    /// The row of a number below `count`.
+    fn row(n: usize) -> Row
+        requires { n < length rows }
+        ensures { slice_get rows n ≡ Some result };
+
+    /// No opcode of one byte is a prefix, REX or the escape, and each digit has its ModRM byte.
+    ghost plain: { IsTrue (list_all is_plain rows) };
+
+    /// The heads of any two rows exclude each other.
+    ghost exclude: { IsTrue (all_exclude rows) };
+}
