@@ -1,0 +1,21 @@
+//! Byte lists, texts and lists of addresses; little-endian fields; pages; operand widths.
+#![tactic(auto)]
+
+mod address_list;
+mod byte_list;
+mod fields;
+mod page;
+mod text_list;
+mod want;
+mod width;
+
+pub use address_list::{Pairs, Words};
+pub use byte_list::Bytes;
+pub use fields::{get_u16, get_u32, get_u64, put_u16, put_u32, put_u64};
+pub use page::page_up;
+pub use text_list::Text;
+pub use want::OutOfMemory;
+pub use width::{Width, mask, sign_extend};
+
+#[cfg(test)]
+mod tests;

@@ -1,0 +1,52 @@
+// Operand widths.
+
+ghost use Rattle.std.specs.Prelude.{◌≡◌, ◌<◌, ◌*◌, ◌^◌};
+ghost use Rattle.rz_num.specs.Width.{extend, low_bits, sign_extended};
+
+/// The width of an operand, in bits (Intel SDM volume 1, 4.1).
+#[derive(Clone, Copy, Debug, PartialEq, Eq)]
+pub enum Width {
+    W8,
+    W16,
+    W32,
+    W64,
+}
+
+/// The low bits of a number, as many as the width has; the bits above are 0.
+pub fn mask(width: Width, x: u64) -> u64
+    ensures { result ≡ low_bits width x }
+{
+    match width {
+        Width::W8 => x % 0x100,
+        Width::W16 => x % 0x1_0000,
+        Width::W32 => x % 0x1_0000_0000,
+        Width::W64 => x,
+    }
+}
+
+/// The low bits of a number, read in two's complement, as a word of 64 bits.
+pub fn sign_extend(width: Width, x: u64) -> u64
+    ensures { result ≡ sign_extended width x }
+{
+    let low = mask(width, x);
+    match width {
+        Width::W8 => filled(low, 0x80),
+        Width::W16 => filled(low, 0x8000),
+        Width::W32 => filled(low, 0x8000_0000),
+        Width::W64 => low,
+    }
+}
+
+// The number with all bits above `half`, its sign bit, equal to that bit.
+fn filled(low: u64, half: u64) -> u64
+    requires positive { 0 < half }
+    requires narrow { half < 2 ^ 63 }
+    requires within { low < 2 * half }
+    ensures { result ≡ extend half low }
+{
+    if low < half {
+        low
+    } else {
+        low + (u64::MAX - (2 * half - 1))
+    }
+}
