@@ -1,7 +1,7 @@
 use Rattle.std.specs.Prelude.{ℕ, ℤ, pos, ◌+◌, ◌*◌, ◌-◌, ◌%◌, ◌^◌, ◌-ℤ◌, Bool, nat_lt, List, [], ◌∷◌, if◌then◌else◌}
 use Rattle.std.specs.List.{list_all}
-use Rattle.rz_num.specs.declared.Width.{Width}
-use Rattle.rz_num.specs.declared.Width.TheVariants.{W8, W16, W32, W64}
+use Rattle.rz_num.specs.declared.width.Width.{Width}
+use Rattle.rz_num.specs.Width.{low_bits}
 
 -- Numbers in the bytes of an instruction (Intel SDM, volume 2, sections 2.1.4 and 2.2.1.3 to 2.2.1.6).
 
@@ -30,16 +30,9 @@ signed bs = if is_positive bs then pos (number bs) else pos (number bs) -ℤ pos
 abbrev pub extended : List ℕ → ℕ
 extended bs = if is_positive bs then number bs else number bs + (2 ^ 64 - numbers bs)
 
--- how many numbers a width has
-abbrev pub size_of : Width → ℕ
-size_of W8 = 2 ^ 8
-size_of W16 = 2 ^ 16
-size_of W32 = 2 ^ 32
-size_of W64 = 2 ^ 64
-
 -- sign-extended and cut to the width
 abbrev pub extended_to : Width → List ℕ → ℕ
-extended_to w bs = extended bs % size_of w
+extended_to w bs = low_bits w (extended bs)
 
 -- an address and a displacement from it
 abbrev pub displaced_by : ℕ → List ℕ → ℕ

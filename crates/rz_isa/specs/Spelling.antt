@@ -1,7 +1,7 @@
 use Rattle.std.specs.Prelude.{ℕ, zero, suc, ◌≡◌, ◌+◌, ◌-◌, ◌*◌, ◌/◌, ◌%◌, Bool, true, false, nat_lt, nat_le, ◌==◌, ◌&&◌, ◌||◌, not, List, [], ◌∷◌, ◌++◌, length, Option, Some, None, if◌then◌else◌, count_by, IsTrue}
 use Rattle.std.specs.List.{list_all}
-use Rattle.rz_num.specs.declared.Width.{Width}
-use Rattle.rz_num.specs.declared.Width.TheVariants.{W8, W16, W32, W64}
+use Rattle.rz_num.specs.declared.width.Width.{Width}
+use Rattle.rz_num.specs.declared.width.Width.TheVariants.{W8, W16, W32, W64}
 use Rattle.rz_isa.specs.declared.rows.Row.{Row}
 use Rattle.rz_isa.specs.declared.rows.OpMap.{OpMap}
 use Rattle.rz_isa.specs.declared.rows.OpMap.TheVariants as maps
