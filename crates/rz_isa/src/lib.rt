@@ -3,6 +3,7 @@
 
 pub mod instruction;
 pub mod kinds;
+pub mod laws;
 pub mod rows;
 pub mod spelled;
 pub mod table;

@@ -1,0 +1,16 @@
+ghost use Rattle.rz_isa.specs.Table.{OneRow, Lengths};
+
+use crate::table::InsnTable;
+
+/// No bytes are spelled by two rows, no spelling is a proper front of another, and the bytes of
+/// a spelling fix its parts.
+pub fn one_row<T: InsnTable>()
+    ensures { OneRow T.rows }
+{
+}
+
+/// Every spelling has 1 to 15 bytes.
+pub fn lengths<T: InsnTable>()
+    ensures { Lengths T.rows }
+{
+}
