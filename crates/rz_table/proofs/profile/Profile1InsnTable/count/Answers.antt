@@ -1,0 +1,7 @@
+use Rattle.std.proofs.Common.{refl}
+use Rattle.rz_isa.proofs.OneRow.{one_row}
+use Rattle.rz_table.specs.declared.profile_rows.TheConstants.{PROFILE}
+use Rattle.rz_table.proofs.profile.Profile1InsnTable.count.Goals as goal
+
+pub returns-clause-one_row : goal.returns-clause-one_row
+returns-clause-one_row c = one_row PROFILE refl refl
