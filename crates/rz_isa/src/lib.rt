@@ -11,5 +11,5 @@ pub mod table;
 pub use instruction::{BitIndex, Count, Insn, Kind, Mem, Operand, Place, Reg};
 pub use kinds::{kind, rip_target, target};
 pub use rows::{F3Rule, Form, ImmKind, Letter, Op, OpMap, RmRule, Row, Size};
-pub use spelled::Fields;
+pub use spelled::{Fields, build};
 pub use table::InsnTable;
