@@ -5,3 +5,6 @@ pub mod Fields
 pub mod Spells
 pub mod Table
 pub mod Reading
+pub mod Having
+pub mod Finding
+pub mod Canonical
