@@ -1,6 +1,8 @@
 //! Instructions, the rows that spell them, and the trait of instruction tables.
 #![tactic(auto)]
 
+mod find;
+mod having;
 pub mod instruction;
 pub mod kinds;
 pub mod laws;

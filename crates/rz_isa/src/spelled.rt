@@ -1,5 +1,5 @@
 ghost use Rattle.std.specs.Prelude.{◌≡◌, ◌<◌, ◌^◌};
-ghost use Rattle.rz_isa.specs.Fields.{build_op, place_at as place_of_letter, operand_at as operand_of_letter, reg_at as reg_of_letter, number_of as number_of_reg, number_at as number_of_letter, count_at as count_of_letter, index_at as index_of_letter, letter_width};
+ghost use Rattle.rz_isa.specs.Fields.{build_op, place_at as place_of_letter, operand_at as operand_of_letter, reg_at as reg_of_letter, number_of as number_of_reg, number_at as number_of_letter, count_at as count_of_letter, index_at as index_of_letter, letter_width as width_of_letter};
 
 use crate::instruction::{BitIndex, Count, Insn, Operand, Place, Reg};
 use crate::rows::{Letter, Op, Row};
@@ -82,8 +82,9 @@ fn index_at(letter: Letter, fields: &Fields) -> BitIndex
     }
 }
 
-fn width_at(letter: Letter, w: Width) -> Width
-    ensures { result ≡ letter_width letter w }
+// The width at which Extend reads its source.
+pub fn letter_width(letter: Letter, w: Width) -> Width
+    ensures { result ≡ width_of_letter letter w }
 {
     match letter {
         Letter::E8 => Width::W8,
@@ -104,7 +105,7 @@ fn build_from(op: Op, f: &Fields) -> Insn
         Op::Extend(signed, d, s) => Insn::Extend {
             signed,
             to: f.w,
-            from: width_at(s, f.w),
+            from: letter_width(s, f.w),
             dst: number_at(d, f),
             src: place_at(s, f),
         },
