@@ -1,3 +1,5 @@
 pub mod Front
 pub mod Exclusion
 pub mod OneRow
+pub mod Equal
+pub mod Built

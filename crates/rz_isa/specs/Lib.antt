@@ -8,3 +8,4 @@ pub mod Reading
 pub mod Having
 pub mod Finding
 pub mod Canonical
+pub mod Regular
