@@ -1,5 +1,5 @@
 use Rattle.std.proofs.Common.{ℕ, ◌≡◌, ◌%◌, ◌^◌, ◌<◌, ◌==◌, refl, ap, sym, ◌∙◌, subst, arith, Bool, true, false, ◌&&◌, Option, Some, None, inl, inr}
-use Rattle.std.specs.Prelude.{MatchOption, ⊤, if◌then◌else◌}
+use Rattle.std.specs.Prelude.{⊤, if◌then◌else◌}
 use Rattle.std.specs.Option.{option_and_then}
 use Rattle.std.proofs.lemmas.Bool.{cases_Bool}
 use Rattle.std.proofs.lemmas.Bool.Decides.{nat_tests}
@@ -78,19 +78,10 @@ with_number-step l n f g e = let t = with_reg-step l (regs.R n) f g e in (ap num
 one_is : (n : ℕ) → (n == 1) ≡ true → 1 ≡ n
 one_is n e = grind (arith, nat_tests)
 
--- a count or a bit index has one byte
-abbrev pub count_small : Count → Type 0
-count_small (counts.Imm n) = n < 2 ^ 8
-count_small counts.Cl = ⊤
-
-abbrev pub index_small : BitIndex → Type 0
-index_small (indexes.Imm n) = n < 2 ^ 8
-index_small (indexes.Reg n) = ⊤
-
-cut : (n k : ℕ) → k ≡ n → n < 2 ^ 8 → k % 2 ^ 8 ≡ n
+cut : (n k : ℕ) → k ≡ n → k < 2 ^ 8 → k % 2 ^ 8 ≡ n
 cut n k e lt = omega arith
 
-pub with_count-step : (l : Letter) (c : Count) (f g : Fields) → count_small c → with_count l c f ≡ Some g → (count_at l g ≡ c) × Kept (count_slot l) f g
+pub with_count-step : (l : Letter) (c : Count) (f g : Fields) → g.imm < 2 ^ 8 → with_count l c f ≡ Some g → (count_at l g ≡ c) × Kept (count_slot l) f g
 with_count-step letters.One (counts.Imm n) f g small e = let t = through (n == 1) f g e in (ap counts.Imm (one_is n t.0), sym t.1)
 with_count-step letters.One counts.Cl f g small e = absurd (cc)
 with_count-step letters.Cl (counts.Imm n) f g small e = absurd (cc)
@@ -98,7 +89,7 @@ with_count-step letters.Cl counts.Cl f g small e = (refl, sym (some_is f g e))
 with_count-step _ (counts.Imm n) f g small e = let s = some_is _ g e in (ap counts.Imm (cut n g.imm (ap (λ (k : Fields). k.imm) (sym s)) small), sym s ∙ (λ i. record f { imm = (s i).imm }))
 with_count-step _ counts.Cl f g small e = absurd (cc)
 
-pub with_index-step : (l : Letter) (x : BitIndex) (f g : Fields) → index_small x → with_index l x f ≡ Some g → (index_at l g ≡ x) × Kept (index_slot l) f g
+pub with_index-step : (l : Letter) (x : BitIndex) (f g : Fields) → g.imm < 2 ^ 8 → with_index l x f ≡ Some g → (index_at l g ≡ x) × Kept (index_slot l) f g
 with_index-step letters.Imm (indexes.Imm n) f g small e = let s = some_is _ g e in (ap indexes.Imm (cut n g.imm (ap (λ (k : Fields). k.imm) (sym s)) small), sym s ∙ (λ i. record f { imm = (s i).imm }))
 with_index-step letters.Imm (indexes.Reg n) f g small e = absurd (cc)
 with_index-step l (indexes.Reg n) f g small e = let t = with_number-step l n f g e in (ap indexes.Reg t.0, t.1)
@@ -193,14 +184,14 @@ pub record PlaceAnd (d : Letter) (p : Place) (B : Fields → Type 0) (f g : Fiel
   pub dst : place_at d g ≡ p
   pub other : B g
 
-pub place_count : (d c : Letter) (p : Place) (x : Count) (f g : Fields) → count_small x → apart (place_slot d) (count_slot c) ≡ true
+pub place_count : (d c : Letter) (p : Place) (x : Count) (f g : Fields) → g.imm < 2 ^ 8 → apart (place_slot d) (count_slot c) ≡ true
     → option_and_then (with_count c x) (with_place d p f) ≡ Some g → PlaceAnd d p (λ k. count_at c k ≡ x) f g
 place_count d c p x f g small a e = option_and_then_some (with_count c x) (with_place d p f) g e (λ m em eg.
     let u = with_place-step d p f m em in
     let v = with_count-step c x m g small eg in
     record { w = w_kept (count_slot c) m g v.1 ∙ w_kept (place_slot d) f m u.1; dst = place_kept d (count_slot c) m g a v.1 ∙ u.0; other = v.0 })
 
-pub place_index : (d i : Letter) (p : Place) (x : BitIndex) (f g : Fields) → index_small x → apart (place_slot d) (index_slot i) ≡ true
+pub place_index : (d i : Letter) (p : Place) (x : BitIndex) (f g : Fields) → g.imm < 2 ^ 8 → apart (place_slot d) (index_slot i) ≡ true
     → option_and_then (with_index i x) (with_place d p f) ≡ Some g → PlaceAnd d p (λ k. index_at i k ≡ x) f g
 place_index d i p x f g small a e = option_and_then_some (with_index i x) (with_place d p f) g e (λ m em eg.
     let u = with_place-step d p f m em in
@@ -219,3 +210,170 @@ pub place_number : (d s : Letter) (p : Place) (n : ℕ) (f g : Fields) → apart
 place_number d s p n f g a e =
     let r = place_reg d s p (regs.R n) f g a e in
     record { w = r.w; dst = r.dst; other = ap number_of r.other }
+
+pub record PlaceNumberCount (d s c : Letter) (p : Place) (n : ℕ) (x : Count) (f g : Fields) : Type 0 where
+  pub w : g.w ≡ f.w
+  pub dst : place_at d g ≡ p
+  pub src : number_at s g ≡ n
+  pub count : count_at c g ≡ x
+
+three : (a b c : Bool) → (a && b && c) ≡ true → (a ≡ true) × (b ≡ true) × (c ≡ true)
+three a b c h = (grind arith, grind arith, grind arith)
+
+pub place_number_count : (d s c : Letter) (p : Place) (n : ℕ) (x : Count) (f g : Fields) → g.imm < 2 ^ 8
+    → (apart (place_slot d) (reg_slot s) && apart (place_slot d) (count_slot c) && apart (reg_slot s) (count_slot c)) ≡ true
+    → option_and_then (with_count c x) (option_and_then (with_number s n) (with_place d p f)) ≡ Some g → PlaceNumberCount d s c p n x f g
+place_number_count d s c p n x f g small a e = option_and_then_some (with_count c x) (option_and_then (with_number s n) (with_place d p f)) g e (λ m em eg.
+    let t = three (apart (place_slot d) (reg_slot s)) (apart (place_slot d) (count_slot c)) (apart (reg_slot s) (count_slot c)) a in
+    let u = place_number d s p n f m t.0 em in
+    let v = with_count-step c x m g small eg in
+    record {
+      w = w_kept (count_slot c) m g v.1 ∙ u.w;
+      dst = place_kept d (count_slot c) m g t.1 v.1 ∙ u.dst;
+      src = number_kept s (count_slot c) m g t.2 v.1 ∙ u.other;
+      count = v.0;
+    })
+
+-- ---- the condition's number
+
+pub cond_again : (c : Cond) → cond_of (number_of_cond c % 16) ≡ c
+cond_again conds.O = refl
+cond_again conds.NO = refl
+cond_again conds.B = refl
+cond_again conds.AE = refl
+cond_again conds.E = refl
+cond_again conds.NE = refl
+cond_again conds.BE = refl
+cond_again conds.A = refl
+cond_again conds.S = refl
+cond_again conds.NS = refl
+cond_again conds.P = refl
+cond_again conds.NP = refl
+cond_again conds.L = refl
+cond_again conds.GE = refl
+cond_again conds.LE = refl
+cond_again conds.G = refl
+
+rep_again : (rep : Bool) → is_rep (rep_byte rep) ≡ rep
+rep_again true = refl
+rep_again false = refl
+
+-- ---- what is found builds the instruction
+
+abbrev pub imm_small : Op → ℕ → Type 0
+imm_small (ops.Shift o d c) n = n < 2 ^ 8
+imm_small (ops.DoubleShift o d s c) n = n < 2 ^ 8
+imm_small (ops.BitTest o d i) n = n < 2 ^ 8
+imm_small ops.Ret n = n < 2 ^ 16
+imm_small _ n = ⊤
+
+-- a test and what it lets through
+pub passed : (b : Bool) (o : Option Fields) (g : Fields) → (if b then o else None) ≡ Some g → (b ≡ true) × (o ≡ Some g)
+passed true o g e = (refl, e)
+passed false o g e = absurd (cc)
+
+both : (a b : Bool) → (a && b) ≡ true → (a ≡ true) × (b ≡ true)
+both a b h = (grind arith, grind arith)
+
+pub built : (op : Op) (x : Insn) (f g : Fields) → operands_apart op ≡ true → imm_small op g.imm → found_in op x f ≡ Some g → build_op op g ≡ x
+built (ops.Arith o d s) (insns.Arith p w dst src) f g a small e =
+    let t = passed (same_arith o p) _ g e in
+    let q = same_arith-is o p t.0 in
+    let r = place_operand d s dst src _ g a t.1 in
+    λ i. insns.Arith (q i) (r.w i) (r.dst i) (r.src i)
+built (ops.Test d s) (insns.Test w dst src) f g a small e = let r = place_operand d s dst src _ g a e in λ i. insns.Test (r.w i) (r.dst i) (r.src i)
+built (ops.Mov d s) (insns.Mov w dst src) f g a small e = let r = place_operand d s dst src _ g a e in λ i. insns.Mov (r.w i) (r.dst i) (r.src i)
+built (ops.Lea d s) (insns.Lea w dst src) f g a small e = let r = number_place d s dst src _ g a e in λ i. insns.Lea (r.w i) (r.dst i) (r.src i)
+built (ops.Extend o d s) (insns.Extend p to from dst src) f g a small e =
+    let t = passed (same_truth o p && same_width from (letter_width s to)) _ g e in
+    let b = both (same_truth o p) (same_width from (letter_width s to)) t.0 in
+    let q = same_truth-is o p b.0 in
+    let v = same_width-is from (letter_width s to) b.1 in
+    let r = number_place d s dst src _ g a t.1 in
+    let u = ap (letter_width s) r.w ∙ sym v in
+    λ i. insns.Extend (q i) (r.w i) (u i) (r.dst i) (r.src i)
+built (ops.Push s) (insns.Push src) f g a small e = ap insns.Push (with_operand-step s src f g e).0
+built (ops.Pop d) (insns.Pop dst) f g a small e = ap insns.Pop (with_place-step d dst f g e).0
+built ops.Leave insns.Leave f g a small e = refl
+built ops.PushFlags insns.PushFlags f g a small e = refl
+built ops.PopFlags insns.PopFlags f g a small e = refl
+built (ops.Unary o d) (insns.Unary p w dst) f g a small e =
+    let t = passed (same_unary o p) _ g e in
+    let q = same_unary-is o p t.0 in
+    let r = with_place-step d dst _ g t.1 in
+    let v = w_kept (place_slot d) _ g r.1 in
+    λ i. insns.Unary (q i) (v i) (r.0 i)
+built (ops.Wide o s) (insns.Wide p w src) f g a small e =
+    let t = passed (same_wide o p) _ g e in
+    let q = same_wide-is o p t.0 in
+    let r = with_place-step s src _ g t.1 in
+    let v = w_kept (place_slot s) _ g r.1 in
+    λ i. insns.Wide (q i) (v i) (r.0 i)
+built (ops.Imul2 d s) (insns.Imul2 w dst src) f g a small e = let r = number_place d s dst src _ g a e in λ i. insns.Imul2 (r.w i) (r.dst i) (r.src i)
+built (ops.Imul3 d s k) (insns.Imul3 w dst src imm) f g a small e = let r = number_place d s dst src _ g a e in λ i. insns.Imul3 (r.w i) (r.dst i) (r.src i) (r.imm i)
+built (ops.Shift o d c) (insns.Shift p w dst count) f g a small e =
+    let t = passed (same_shift o p) _ g e in
+    let q = same_shift-is o p t.0 in
+    let r = place_count d c dst count _ g small a t.1 in
+    λ i. insns.Shift (q i) (r.w i) (r.dst i) (r.other i)
+built (ops.DoubleShift o d s c) (insns.DoubleShift p w dst src count) f g a small e =
+    let t = passed (same_truth o p) _ g e in
+    let q = same_truth-is o p t.0 in
+    let r = place_number_count d s c dst src count _ g small a t.1 in
+    λ i. insns.DoubleShift (q i) (r.w i) (r.dst i) (r.src i) (r.count i)
+built (ops.Cmov d s) (insns.Cmov c w dst src) f g a small e =
+    let r = number_place d s dst src _ g a e in
+    let q = ap (λ k. cond_of (k % 16)) r.cond ∙ cond_again c in
+    λ i. insns.Cmov (q i) (r.w i) (r.dst i) (r.src i)
+built (ops.Set d) (insns.Set c dst) f g a small e =
+    let r = with_place-step d dst _ g e in
+    let q = ap (λ k. cond_of (k % 16)) (cond_kept (place_slot d) _ g r.1) ∙ cond_again c in
+    λ i. insns.Set (q i) (r.0 i)
+built ops.Jcc (insns.Jcc c target) f g a small e =
+    let s = some_is _ g e in
+    let q = ap (λ (k : Fields). cond_of (k.cond % 16)) (sym s) ∙ cond_again c in
+    let t = ap (λ (k : Fields). k.imm) (sym s) in
+    λ i. insns.Jcc (q i) (t i)
+built ops.Jrcxz (insns.Jrcxz target) f g a small e = ap (λ (k : Fields). insns.Jrcxz k.imm) (sym (some_is _ g e))
+built ops.Jmp (insns.Jmp target) f g a small e = ap (λ (k : Fields). insns.Jmp k.imm) (sym (some_is _ g e))
+built ops.Call (insns.Call target) f g a small e = ap (λ (k : Fields). insns.Call k.imm) (sym (some_is _ g e))
+built (ops.CallInd s) (insns.CallInd src) f g a small e = ap insns.CallInd (with_place-step s src f g e).0
+built (ops.JmpInd s) (insns.JmpInd src) f g a small e = ap insns.JmpInd (with_place-step s src f g e).0
+built ops.Ret (insns.Ret pop) f g a small e = let t = ap (λ (k : Fields). k.imm) (sym (some_is _ g e)) in ap insns.Ret (cut16 pop g.imm t small)
+  where
+    cut16 : (n k : ℕ) → k ≡ n → k < 2 ^ 16 → k % 2 ^ 16 ≡ n
+    cut16 n k e lt = omega arith
+built ops.Convert (insns.Convert w) f g a small e = ap (λ (k : Fields). insns.Convert k.w) (sym (some_is _ g e))
+built ops.SignFill (insns.SignFill w) f g a small e = ap (λ (k : Fields). insns.SignFill k.w) (sym (some_is _ g e))
+built (ops.Xchg d s) (insns.Xchg w dst src) f g a small e = let r = place_reg d s dst src _ g a e in λ i. insns.Xchg (r.w i) (r.dst i) (r.other i)
+built ops.Nop insns.Nop f g a small e = refl
+built (ops.Bswap d) (insns.Bswap w reg) f g a small e =
+    let r = with_number-step d reg _ g e in
+    let v = w_kept (reg_slot d) _ g r.1 in
+    λ i. insns.Bswap (v i) (r.0 i)
+built (ops.BitTest o d k) (insns.BitTest p w dst index) f g a small e =
+    let t = passed (same_bit o p) _ g e in
+    let q = same_bit-is o p t.0 in
+    let r = place_index d k dst index _ g small a t.1 in
+    λ i. insns.BitTest (q i) (r.w i) (r.dst i) (r.other i)
+built (ops.Scan o d s) (insns.Scan p w dst src) f g a small e =
+    let t = passed (same_scan o p) _ g e in
+    let q = same_scan-is o p t.0 in
+    let r = number_place d s dst src _ g a t.1 in
+    λ i. insns.Scan (q i) (r.w i) (r.dst i) (r.src i)
+built ops.Movs (insns.Movs w rep) f g a small e =
+    let s = some_is _ g e in
+    let v = ap (λ (k : Fields). k.w) (sym s) in
+    let q = ap (λ (k : Fields). is_rep k.rep) (sym s) ∙ rep_again rep in
+    λ i. insns.Movs (v i) (q i)
+built ops.Stos (insns.Stos w rep) f g a small e =
+    let s = some_is _ g e in
+    let v = ap (λ (k : Fields). k.w) (sym s) in
+    let q = ap (λ (k : Fields). is_rep k.rep) (sym s) ∙ rep_again rep in
+    λ i. insns.Stos (v i) (q i)
+built (ops.Flag o) (insns.Flag p) f g a small e = ap insns.Flag (same_change-is o p (passed (same_change o p) (Some f) g e).0)
+built ops.Syscall insns.Syscall f g a small e = refl
+built ops.Ud2 insns.Ud2 f g a small e = refl
+built ops.Hlt insns.Hlt f g a small e = refl
+built ops.Int3 insns.Int3 f g a small e = refl
+built _ _ f g a small e = absurd (cc)
