@@ -3,3 +3,4 @@ pub mod Exclusion
 pub mod OneRow
 pub mod Equal
 pub mod Built
+pub mod Again

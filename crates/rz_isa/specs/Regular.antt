@@ -3,6 +3,8 @@ use Rattle.rz_isa.specs.declared.rows.Row.{Row}
 use Rattle.rz_isa.specs.declared.rows.OpMap.{OpMap}
 use Rattle.rz_isa.specs.declared.rows.RmRule.{RmRule}
 use Rattle.rz_isa.specs.declared.rows.RmRule.TheVariants as rules
+use Rattle.rz_isa.specs.declared.rows.Size.{Size}
+use Rattle.rz_isa.specs.declared.rows.Size.TheVariants as sizes
 use Rattle.rz_isa.specs.declared.rows.ImmKind.{ImmKind}
 use Rattle.rz_isa.specs.declared.rows.ImmKind.TheVariants as imms
 use Rattle.rz_isa.specs.declared.rows.Letter.{Letter}
@@ -86,6 +88,22 @@ imm_suits (ops.BitTest o d i) k = is_byte_imm k
 imm_suits ops.Ret k = is_word_imm k
 imm_suits _ k = true
 
+abbrev pub is_single : Size → Bool
+is_single sizes.V = false
+is_single sizes.D = false
+is_single sizes.Y = false
+is_single _ = true
+
+-- where the instruction has an immediate or a target and doesn't name its width, the class has one width
+abbrev pub width_suits : Op → Size → Bool
+width_suits (ops.Push s) c = is_single c
+width_suits ops.Jcc c = is_single c
+width_suits ops.Jrcxz c = is_single c
+width_suits ops.Jmp c = is_single c
+width_suits ops.Call c = is_single c
+width_suits ops.Ret c = is_single c
+width_suits _ c = true
+
 -- a displacement from the next address, or a whole immediate of any width
 abbrev pub stands_alone : Option ImmKind → Bool
 stands_alone (Some imms.J8) = true
@@ -111,5 +129,5 @@ rule_small _ = true
 
 abbrev pub is_regular : Row → Bool
 is_regular r =
-    operands_apart r.op && imm_suits r.op r.imm && not (stands_alone r.imm && is_some r.rm) && is_block r && digit_small r.digit && rule_small r.rm
+    operands_apart r.op && imm_suits r.op r.imm && width_suits r.op r.size && not (stands_alone r.imm && is_some r.rm) && is_block r && digit_small r.digit && rule_small r.rm
     && not (is_some (b_demand r.op r.map 0x90) && is_some r.rm) && (not (is_exchange r.op) || r.span == 8)
