@@ -30,7 +30,7 @@ use Rattle.rz_isa.specs.Spelling.{is_met, b_demand}
 use Rattle.rz_isa.specs.Fields.{build_op, letter_width, rm_width, is_rep, place_at, operand_at, reg_at, number_of, number_at, count_at, index_at}
 use Rattle.rz_isa.specs.Having.{is_byte, has_width, has_reg, has_place, has_cond, has_imm, has_rep, bars_rex, needs_rex, in_opcode, opcode_of, b_needed, place_b, code_of, can_have}
 use Rattle.rz_isa.specs.Finding.{least_width, least_place, least, with_place, with_operand, with_reg, with_number, with_count, with_index, same_truth, same_width, same_arith, same_unary, same_wide, same_shift, same_bit, same_scan, same_change, rep_byte, found_in}
-use Rattle.rz_isa.specs.Regular.{place_slot, reg_slot, is_single, width_suits}
+use Rattle.rz_isa.specs.Regular.{place_slot, reg_slot, is_single, width_suits, is_exchange}
 use Rattle.rz_isa.proofs.Equal.{same_width-refl, same_truth-refl, same_arith-refl, same_unary-refl, same_wide-refl, same_shift-refl, same_bit-refl, same_scan-refl, same_change-refl}
 use Rattle.rz_isa.proofs.Built.{with_place-step, with_reg-step, with_number-step, w_kept, imm_small}
 
@@ -191,3 +191,149 @@ single_width sizes.Q W64 s h = refl
 single_width sizes.WQ W64 s h = refl
 single_width sizes.N W8 s h = refl
 single_width _ _ s h = absurd (cc)
+
+-- ---- the tests of a row's fields, one by one
+
+pub record Had (row : Row) (f : Fields) : Type 0 where
+  pub w : has_width row.size f.w ≡ true
+  pub reg : has_reg row f.w f.reg ≡ true
+  pub rm : has_place row.rm (rm_width row.op f.w) f.rm ≡ true
+  pub cond : has_cond row.span f.cond ≡ true
+  pub imm : has_imm row.imm f.w f.imm ≡ true
+  pub rep : has_rep row.f3 f.rep ≡ true
+  pub rex : not (bars_rex f && needs_rex row f) ≡ true
+  pub b : is_met (b_demand row.op row.map (opcode_of row f)) (b_needed row f) ≡ true
+
+pub record Eight (a b c d e f g h : Bool) : Type 0 where
+  pub one : a ≡ true
+  pub two : b ≡ true
+  pub three : c ≡ true
+  pub four : d ≡ true
+  pub five : e ≡ true
+  pub six : f ≡ true
+  pub seven : g ≡ true
+  pub eight : h ≡ true
+
+pub eight : (a b c d e f g h : Bool) → (a && b && c && d && e && f && g && h) ≡ true → Eight a b c d e f g h
+eight a b c d e f g h x = record { one = grind arith; two = grind arith; three = grind arith; four = grind arith; five = grind arith; six = grind arith; seven = grind arith; eight = grind arith }
+
+pub all_eight : (a b c d e f g h : Bool) → a ≡ true → b ≡ true → c ≡ true → d ≡ true → e ≡ true → f ≡ true → g ≡ true → h ≡ true → (a && b && c && d && e && f && g && h) ≡ true
+all_eight a b c d e f g h ea eb ec ed ee ef eg eh = grind arith
+
+pub had_of : (row : Row) (f : Fields) → can_have row f ≡ true → Had row f
+had_of row f h =
+    let e = eight (has_width row.size f.w) (has_reg row f.w f.reg) (has_place row.rm (rm_width row.op f.w) f.rm) (has_cond row.span f.cond) (has_imm row.imm f.w f.imm) (has_rep row.f3 f.rep)
+      (not (bars_rex f && needs_rex row f)) (is_met (b_demand row.op row.map (opcode_of row f)) (b_needed row f)) h in
+    record { w = e.one; reg = e.two; rm = e.three; cond = e.four; imm = e.five; rep = e.six; rex = e.seven; b = e.eight }
+
+pub can_of : (row : Row) (f : Fields) → Had row f → can_have row f ≡ true
+can_of row f h = all_eight _ _ _ _ _ _ _ _ h.w h.reg h.rm h.cond h.imm h.rep h.rex h.b
+
+-- ---- REX.B of what is found
+
+nop_met : (m : OpMap) (o n : ℕ) → n ≡ 0 → is_met (b_demand ops.Nop m o) n ≡ true
+nop_met maps.Two o n e = refl
+nop_met maps.One o n e = elim (cases_Bool (o == 0x90)) [ inl y ↦ grind (arith, nat_tests) | inr k ↦ grind (arith, nat_tests) ]
+
+least_place_b : (r : Option RmRule) → place_b (least_place r) ≡ 0
+least_place_b None = refl
+least_place_b (Some rules.Any) = refl
+least_place_b (Some rules.MemoryOnly) = refl
+least_place_b (Some rules.RegisterOnly) = refl
+least_place_b (Some (rules.Fixed b)) = refl
+
+least_b : (row : Row) → b_needed row (least row) ≡ 0
+least_b row = elim (cases_Bool (in_opcode row.rm row.span)) [
+  | inl y ↦ ap (λ k. if k then 0 else place_b (least_place row.rm)) y
+  | inr n ↦ ap (λ k. if k then 0 else place_b (least_place row.rm)) n ∙ least_place_b row.rm
+]
+
+-- the exchange with the accumulator takes its register from the opcode
+exchange_met : (row : Row) (f g : Fields) (op : Op) → in_opcode row.rm row.span ≡ true → g.reg ≡ f.reg → is_met (b_demand op row.map (opcode_of row f)) (b_needed row f) ≡ true
+    → is_met (b_demand op row.map (opcode_of row g)) (b_needed row g) ≡ true
+exchange_met row f g op at reg met =
+    let o : opcode_of row g ≡ opcode_of row f = ap (λ k. row.opcode + (if k then code_of g.reg % 8 else g.cond)) at ∙ (ap (λ r. row.opcode + code_of r % 8) reg ∙ sym (ap (λ k. row.opcode + (if k then code_of f.reg % 8 else f.cond)) at)) in
+    let b : b_needed row g ≡ b_needed row f = ap (λ k. if k then code_of g.reg / 8 else place_b g.rm) at ∙ (ap (λ r. code_of r / 8) reg ∙ sym (ap (λ k. if k then code_of f.reg / 8 else place_b f.rm) at)) in
+    subst (λ x. is_met (b_demand op row.map x) (b_needed row g) ≡ true) (sym o) (subst (λ x. is_met (b_demand op row.map (opcode_of row f)) x ≡ true) (sym b) met)
+
+-- ---- what builds an instruction is found again
+
+pub record Again (op : Op) (row : Row) (f : Fields) : Type 0 where
+  pub g : Fields
+  pub found : found_in op (build_op op f) (least row) ≡ Some g
+  pub below : Below row g f
+  pub b : is_met (b_demand op row.map (opcode_of row g)) (b_needed row g) ≡ true
+
+pub record Asked (op : Op) (row : Row) (f : Fields) : Type 0 where
+  pub w : has_width row.size f.w ≡ true
+  pub cond : has_cond row.span f.cond ≡ true
+  pub rep : has_rep row.f3 f.rep ≡ true
+  pub small : imm_small op f.imm
+  pub single : width_suits op row.size ≡ true
+  pub exchange : is_exchange op ≡ true → in_opcode row.rm row.span ≡ true
+  pub b : is_met (b_demand op row.map (opcode_of row f)) (b_needed row f) ≡ true
+
+when_true : (b : Bool) (o : Option Fields) → b ≡ true → (if b then o else None) ≡ o
+when_true b o e = ap (λ k. if k then o else None) e
+
+single : (op : Op) (row : Row) (f : Fields) → is_single row.size ≡ true → has_width row.size f.w ≡ true → least_width row.size ≡ f.w
+single op row f s h = single_width row.size f.w s h
+
+cut16 : (n : ℕ) → n < 2 ^ 16 → n % 2 ^ 16 ≡ n
+cut16 n lt = omega arith
+
+target_below : (row : Row) (f b : Fields) → b.w ≡ f.w → Below row b f → Below row (record b { imm = f.imm }) f
+target_below row f b w h = imm_below row f b f.imm refl w h
+
+cond_below : (row : Row) (f b : Fields) (n : ℕ) → n ≡ f.cond → Below row b f → Below row (record b { cond = n }) f
+cond_below row f b n e h = record { w = h.w; reg = h.reg; rm = h.rm; cond = inl e; imm = h.imm; rep = h.rep }
+
+rep_below : (row : Row) (f b : Fields) (n : ℕ) → n ≡ f.rep → Below row b f → Below row (record b { rep = n }) f
+rep_below row f b n e h = record { w = h.w; reg = h.reg; rm = h.rm; cond = h.cond; imm = h.imm; rep = inl e }
+
+pub again : (op : Op) (row : Row) (f : Fields) → Asked op row f → Again op row f
+again (ops.Arith o d s) row f h = let r = place_operand_again row d s f _ refl (width_below row f) in record { g = r.0; found = when_true (same_arith o o) _ (same_arith-refl o) ∙ r.1.0; below = r.1.1; b = refl }
+again (ops.Test d s) row f h = let r = place_operand_again row d s f _ refl (width_below row f) in record { g = r.0; found = r.1.0; below = r.1.1; b = refl }
+again (ops.Mov d s) row f h = let r = place_operand_again row d s f _ refl (width_below row f) in record { g = r.0; found = r.1.0; below = r.1.1; b = refl }
+again (ops.Lea d s) row f h = let r = number_place_again row d s f _ (width_below row f) in record { g = r.0; found = r.1.0; below = r.1.1; b = refl }
+again (ops.Extend o d s) row f h =
+    let r = number_place_again row d s f _ (width_below row f) in
+    let t = ap (λ k. k && same_width (letter_width s f.w) (letter_width s f.w)) (same_truth-refl o) ∙ same_width-refl (letter_width s f.w) in
+    record { g = r.0; found = when_true _ _ t ∙ r.1.0; below = r.1.1; b = refl }
+again (ops.Push s) row f h = let r = operand_again row s f (least row) (single (ops.Push s) row f h.single h.w) (least_below row f) in record { g = r.0; found = r.1.0; below = r.1.1; b = refl }
+again (ops.Pop d) row f h = let r = place_again row d f (least row) (least_below row f) in record { g = r.0; found = r.1.0; below = r.1.1; b = refl }
+again ops.Leave row f h = record { g = least row; found = refl; below = least_below row f; b = refl }
+again ops.PushFlags row f h = record { g = least row; found = refl; below = least_below row f; b = refl }
+again ops.PopFlags row f h = record { g = least row; found = refl; below = least_below row f; b = refl }
+again (ops.Unary o d) row f h = let r = place_again row d f _ (width_below row f) in record { g = r.0; found = when_true (same_unary o o) _ (same_unary-refl o) ∙ r.1.0; below = r.1.1; b = refl }
+again (ops.Wide o s) row f h = let r = place_again row s f _ (width_below row f) in record { g = r.0; found = when_true (same_wide o o) _ (same_wide-refl o) ∙ r.1.0; below = r.1.1; b = refl }
+again (ops.Imul2 d s) row f h = let r = number_place_again row d s f _ (width_below row f) in record { g = r.0; found = r.1.0; below = r.1.1; b = refl }
+again (ops.Imul3 d s i) row f h = let r = number_place_again row d s f _ (target_below row f _ refl (width_below row f)) in record { g = r.0; found = r.1.0; below = r.1.1; b = refl }
+again (ops.Shift o d c) row f h = let r = place_count_again row d c f _ h.small refl (width_below row f) in record { g = r.0; found = when_true (same_shift o o) _ (same_shift-refl o) ∙ r.1.0; below = r.1.1; b = refl }
+again (ops.DoubleShift o d s c) row f h = let r = place_number_count_again row d s c f _ h.small refl (width_below row f) in record { g = r.0; found = when_true (same_truth o o) _ (same_truth-refl o) ∙ r.1.0; below = r.1.1; b = refl }
+again (ops.Cmov d s) row f h = let r = number_place_again row d s f _ (cond_below row f _ _ (cond_found row.span f.cond h.cond) (width_below row f)) in record { g = r.0; found = r.1.0; below = r.1.1; b = refl }
+again (ops.Set d) row f h = let r = place_again row d f _ (cond_below row f _ _ (cond_found row.span f.cond h.cond) (least_below row f)) in record { g = r.0; found = r.1.0; below = r.1.1; b = refl }
+again ops.Jcc row f h = record { g = _; found = refl; below = target_below row f _ (single ops.Jcc row f h.single h.w) (cond_below row f _ _ (cond_found row.span f.cond h.cond) (least_below row f)); b = refl }
+again ops.Jrcxz row f h = record { g = _; found = refl; below = target_below row f _ (single ops.Jrcxz row f h.single h.w) (least_below row f); b = refl }
+again ops.Jmp row f h = record { g = _; found = refl; below = target_below row f _ (single ops.Jmp row f h.single h.w) (least_below row f); b = refl }
+again ops.Call row f h = record { g = _; found = refl; below = target_below row f _ (single ops.Call row f h.single h.w) (least_below row f); b = refl }
+again (ops.CallInd s) row f h = let r = place_again row s f (least row) (least_below row f) in record { g = r.0; found = r.1.0; below = r.1.1; b = refl }
+again (ops.JmpInd s) row f h = let r = place_again row s f (least row) (least_below row f) in record { g = r.0; found = r.1.0; below = r.1.1; b = refl }
+again ops.Ret row f h = record { g = _; found = refl; below = imm_below row f (least row) (f.imm % 2 ^ 16) (cut16 f.imm h.small) (single ops.Ret row f h.single h.w) (least_below row f); b = refl }
+again ops.Convert row f h = record { g = _; found = refl; below = width_below row f; b = refl }
+again ops.SignFill row f h = record { g = _; found = refl; below = width_below row f; b = refl }
+again ops.Nop row f h = record { g = least row; found = refl; below = least_below row f; b = nop_met row.map (opcode_of row (least row)) (b_needed row (least row)) (least_b row) }
+again (ops.Bswap d) row f h = let r = number_again row d f _ (width_below row f) in record { g = r.0; found = r.1.0; below = r.1.1; b = refl }
+again (ops.BitTest o d i) row f h = let r = place_index_again row d i f _ h.small refl (width_below row f) in record { g = r.0; found = when_true (same_bit o o) _ (same_bit-refl o) ∙ r.1.0; below = r.1.1; b = refl }
+again (ops.Scan o d s) row f h = let r = number_place_again row d s f _ (width_below row f) in record { g = r.0; found = when_true (same_scan o o) _ (same_scan-refl o) ∙ r.1.0; below = r.1.1; b = refl }
+again ops.Movs row f h = record { g = _; found = refl; below = rep_below row f _ _ (rep_found row.f3 f.rep h.rep) (width_below row f); b = refl }
+again ops.Stos row f h = record { g = _; found = refl; below = rep_below row f _ _ (rep_found row.f3 f.rep h.rep) (width_below row f); b = refl }
+again (ops.Flag o) row f h = record { g = least row; found = when_true (same_change o o) _ (same_change-refl o); below = least_below row f; b = refl }
+again ops.Syscall row f h = record { g = least row; found = refl; below = least_below row f; b = refl }
+again ops.Ud2 row f h = record { g = least row; found = refl; below = least_below row f; b = refl }
+again ops.Hlt row f h = record { g = least row; found = refl; below = least_below row f; b = refl }
+again ops.Int3 row f h = record { g = least row; found = refl; below = least_below row f; b = refl }
+again (ops.Xchg letters.O letters.A) row f h =
+    let g : Fields = record (least row) { w = f.w; reg = f.reg } in
+    record { g = g; found = refl; below = reg_below row f _ (width_below row f); b = exchange_met row f g (ops.Xchg letters.O letters.A) (h.exchange refl) refl h.b }
+again (ops.Xchg d s) row f h = let r = place_reg_again row d s f _ (width_below row f) in record { g = r.0; found = r.1.0; below = r.1.1; b = refl }

@@ -4,3 +4,4 @@ pub mod OneRow
 pub mod Equal
 pub mod Built
 pub mod Again
+pub mod Lesser
