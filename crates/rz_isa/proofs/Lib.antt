@@ -5,3 +5,4 @@ pub mod Equal
 pub mod Built
 pub mod Again
 pub mod Lesser
+pub mod Inverse
