@@ -1,4 +1,5 @@
 ghost use Rattle.std.specs.Prelude.{◌≡◌};
+ghost use Rattle.std.specs.Option.{option_and_then};
 ghost use Rattle.rz_isa.specs.Finding.{with_place as with_place_at, with_operand as with_operand_at, with_reg as with_reg_at, with_number as with_number_at, with_count as with_count_at, with_index as with_index_at, found_in as found_from, rep_byte as rep_byte_of, least_width as least_width_of, least_place as least_place_of, least as least_of, found};
 
 use crate::having::{can_have, is_first};
@@ -105,6 +106,43 @@ fn with_index(letter: Letter, index: BitIndex, f: Fields) -> Option<Fields>
     }
 }
 
+// Fields with a destination and a source.
+fn with_operands(d: Letter, dst: Place, s: Letter, src: Operand, f: Fields) -> Option<Fields>
+    ensures { result ≡ option_and_then (with_operand_at s src) (with_place_at d dst f) }
+{
+    with_operand(s, src, with_place(d, dst, f)?)
+}
+
+fn with_number_and_place(d: Letter, dst: u8, s: Letter, src: Place, f: Fields) -> Option<Fields>
+    ensures { result ≡ option_and_then (with_place_at s src) (with_number_at d dst f) }
+{
+    with_place(s, src, with_number(d, dst, f)?)
+}
+
+fn with_place_and_number(d: Letter, dst: Place, s: Letter, src: u8, f: Fields) -> Option<Fields>
+    ensures { result ≡ option_and_then (with_number_at s src) (with_place_at d dst f) }
+{
+    with_number(s, src, with_place(d, dst, f)?)
+}
+
+fn with_place_and_reg(d: Letter, dst: Place, s: Letter, src: Reg, f: Fields) -> Option<Fields>
+    ensures { result ≡ option_and_then (with_reg_at s src) (with_place_at d dst f) }
+{
+    with_reg(s, src, with_place(d, dst, f)?)
+}
+
+fn counted(c: Letter, count: Count, f: Option<Fields>) -> Option<Fields>
+    ensures { result ≡ option_and_then (with_count_at c count) f }
+{
+    with_count(c, count, f?)
+}
+
+fn indexed(i: Letter, index: BitIndex, f: Option<Fields>) -> Option<Fields>
+    ensures { result ≡ option_and_then (with_index_at i index) f }
+{
+    with_index(i, index, f?)
+}
+
 // The fields `f` with what the operation names in the instruction; `None` where it can't be
 // the operation's.
 pub fn found_in(operation: Op, insn: &Insn, f: Fields) -> Option<Fields>
@@ -113,25 +151,25 @@ pub fn found_in(operation: Op, insn: &Insn, f: Fields) -> Option<Fields>
     match operation {
         Op::Arith(op, d, s) => match *insn {
             Insn::Arith { op: o, w, dst, src } if op == o => {
-                with_operand(s, src, with_place(d, dst, Fields { w, ..f })?)
+                with_operands(d, dst, s, src, Fields { w, ..f })
             }
             _ => None,
         },
         Op::Test(d, s) => match *insn {
-            Insn::Test { w, dst, src } => with_operand(s, src, with_place(d, dst, Fields { w, ..f })?),
+            Insn::Test { w, dst, src } => with_operands(d, dst, s, src, Fields { w, ..f }),
             _ => None,
         },
         Op::Mov(d, s) => match *insn {
-            Insn::Mov { w, dst, src } => with_operand(s, src, with_place(d, dst, Fields { w, ..f })?),
+            Insn::Mov { w, dst, src } => with_operands(d, dst, s, src, Fields { w, ..f }),
             _ => None,
         },
         Op::Lea(d, s) => match *insn {
-            Insn::Lea { w, dst, src } => with_place(s, src, with_number(d, dst, Fields { w, ..f })?),
+            Insn::Lea { w, dst, src } => with_number_and_place(d, dst, s, src, Fields { w, ..f }),
             _ => None,
         },
         Op::Extend(signed, d, s) => match *insn {
             Insn::Extend { signed: o, to, from, dst, src } if signed == o && from == letter_width(s, to) => {
-                with_place(s, src, with_number(d, dst, Fields { w: to, ..f })?)
+                with_number_and_place(d, dst, s, src, Fields { w: to, ..f })
             }
             _ => None,
         },
@@ -164,28 +202,28 @@ pub fn found_in(operation: Op, insn: &Insn, f: Fields) -> Option<Fields>
             _ => None,
         },
         Op::Imul2(d, s) => match *insn {
-            Insn::Imul2 { w, dst, src } => with_place(s, src, with_number(d, dst, Fields { w, ..f })?),
+            Insn::Imul2 { w, dst, src } => with_number_and_place(d, dst, s, src, Fields { w, ..f }),
             _ => None,
         },
         Op::Imul3(d, s, _) => match *insn {
-            Insn::Imul3 { w, dst, src, imm } => with_place(s, src, with_number(d, dst, Fields { w, imm, ..f })?),
+            Insn::Imul3 { w, dst, src, imm } => with_number_and_place(d, dst, s, src, Fields { w, imm, ..f }),
             _ => None,
         },
         Op::Shift(op, d, c) => match *insn {
             Insn::Shift { op: o, w, dst, count } if op == o => {
-                with_count(c, count, with_place(d, dst, Fields { w, ..f })?)
+                counted(c, count, with_place(d, dst, Fields { w, ..f }))
             }
             _ => None,
         },
         Op::DoubleShift(left, d, s, c) => match *insn {
             Insn::DoubleShift { left: o, w, dst, src, count } if left == o => {
-                with_count(c, count, with_number(s, src, with_place(d, dst, Fields { w, ..f })?)?)
+                counted(c, count, with_place_and_number(d, dst, s, src, Fields { w, ..f }))
             }
             _ => None,
         },
         Op::Cmov(d, s) => match *insn {
             Insn::Cmov { cond, w, dst, src } => {
-                with_place(s, src, with_number(d, dst, Fields { w, cond: cond.number(), ..f })?)
+                with_number_and_place(d, dst, s, src, Fields { w, cond: cond.number(), ..f })
             }
             _ => None,
         },
@@ -230,7 +268,7 @@ pub fn found_in(operation: Op, insn: &Insn, f: Fields) -> Option<Fields>
             _ => None,
         },
         Op::Xchg(d, s) => match *insn {
-            Insn::Xchg { w, dst, src } => with_reg(s, src, with_place(d, dst, Fields { w, ..f })?),
+            Insn::Xchg { w, dst, src } => with_place_and_reg(d, dst, s, src, Fields { w, ..f }),
             _ => None,
         },
         Op::Nop => match *insn {
@@ -243,13 +281,13 @@ pub fn found_in(operation: Op, insn: &Insn, f: Fields) -> Option<Fields>
         },
         Op::BitTest(op, d, i) => match *insn {
             Insn::BitTest { op: o, w, dst, index } if op == o => {
-                with_index(i, index, with_place(d, dst, Fields { w, ..f })?)
+                indexed(i, index, with_place(d, dst, Fields { w, ..f }))
             }
             _ => None,
         },
         Op::Scan(op, d, s) => match *insn {
             Insn::Scan { op: o, w, dst, src } if op == o => {
-                with_place(s, src, with_number(d, dst, Fields { w, ..f })?)
+                with_number_and_place(d, dst, s, src, Fields { w, ..f })
             }
             _ => None,
         },
