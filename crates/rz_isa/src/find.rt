@@ -1,4 +1,5 @@
-ghost use Rattle.std.specs.Prelude.{◌≡◌};
+ghost use Rattle.std.specs.Prelude.{◌≡◌, IsTrue, IfSome, IfNone};
+ghost use Rattle.rz_isa.specs.Regular.{is_regular, Builds, NoneBuilds};
 ghost use Rattle.std.specs.Option.{option_and_then};
 ghost use Rattle.rz_isa.specs.Finding.{with_place as with_place_at, with_operand as with_operand_at, with_reg as with_reg_at, with_number as with_number_at, with_count as with_count_at, with_index as with_index_at, found_in as found_from, rep_byte as rep_byte_of, least_width as least_width_of, least_place as least_place_of, least as least_of, found};
 
@@ -145,7 +146,7 @@ fn indexed(i: Letter, index: BitIndex, f: Option<Fields>) -> Option<Fields>
 
 // The fields `f` with what the operation names in the instruction; `None` where it can't be
 // the operation's.
-pub fn found_in(operation: Op, insn: &Insn, f: Fields) -> Option<Fields>
+fn found_in(operation: Op, insn: &Insn, f: Fields) -> Option<Fields>
     ensures { result ≡ found_from operation insn.now f }
 {
     match operation {
@@ -369,8 +370,18 @@ fn least(row: &Row) -> Fields
     }
 }
 
-/// Fields that the row can have and that build the instruction.
-pub fn find(row: &Row, insn: &Insn) -> Option<Fields>
+/// Fields that the row can have at some address and that build the instruction; `None` exactly
+/// where none do. The row is one of a table. It takes no memory.
+pub fn fields_of(row: &Row, insn: &Insn) -> Option<Fields>
+    requires { IsTrue (is_regular row.now) }
+    ensures value { result ≡ found row.now insn.now }
+    ensures some { IfSome result (Builds row.now insn.now) }
+    ensures none { IfNone result (NoneBuilds row.now insn.now) }
+{
+    find(row, insn)
+}
+
+fn find(row: &Row, insn: &Insn) -> Option<Fields>
     ensures { result ≡ found row.now insn.now }
 {
     let fields = found_in(row.op, insn, least(row))?;

@@ -10,6 +10,7 @@ pub mod rows;
 pub mod spelled;
 pub mod table;
 
+pub use find::fields_of;
 pub use instruction::{BitIndex, Count, Insn, Kind, Mem, Operand, Place, Reg};
 pub use kinds::{kind, rip_target, target};
 pub use rows::{F3Rule, Form, ImmKind, Letter, Op, OpMap, RmRule, Row, Size};

@@ -2,6 +2,7 @@ ghost use Rattle.std.specs.Prelude.{◌≡◌, ◌<◌, List, length, slice_get,
 ghost use Rattle.std.specs.List.{list_all};
 ghost use Rattle.rz_isa.specs.declared.rows.Row.{Row};
 ghost use Rattle.rz_isa.specs.Table.{is_plain, all_exclude};
+ghost use Rattle.rz_isa.specs.Regular.{is_regular};
 
 use crate::rows::Row;
 
@@ -24,4 +25,7 @@ pub trait InsnTable {
 
     /// The heads of any two rows exclude each other.
     ghost exclude: { IsTrue (all_exclude rows) };
+
+    /// The fields of each row can be told from the instruction and the other way round.
+    ghost regular: { IsTrue (list_all is_regular rows) };
 }

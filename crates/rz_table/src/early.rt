@@ -29,4 +29,6 @@ impl InsnTable for Early {
     ghost plain = { refl };
 
     ghost exclude = { refl };
+
+    ghost regular = { refl };
 }

@@ -36,4 +36,6 @@ impl InsnTable for Profile1 {
     ghost plain = { refl };
 
     ghost exclude = { refl };
+
+    ghost regular = { refl };
 }
