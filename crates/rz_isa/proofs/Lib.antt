@@ -6,3 +6,5 @@ pub mod Built
 pub mod Again
 pub mod Lesser
 pub mod Inverse
+pub mod Numbers
+pub mod Complete

@@ -1,0 +1,203 @@
+use Rattle.std.proofs.Common.{ℕ, zero, suc, ◌≡◌, ◌≢◌, ◌+◌, ◌-◌, ◌*◌, ◌/◌, ◌%◌, ◌^◌, ◌<◌, ◌≤◌, ◌==◌, refl, ap, sym, ◌∙◌, subst, arith, List, [], ◌∷◌, ◌++◌, length, Bool, true, false, not, ◌&&◌, ◌||◌, inl, inr, Option, Some, None}
+use Rattle.std.specs.Prelude.{nat_lt, nat_le, is_some, if◌then◌else◌}
+use Rattle.std.specs.List.{list_all}
+use Rattle.std.proofs.lemmas.Bool.{cases_Bool}
+use Rattle.std.proofs.lemmas.Bool.Decides.{nat_tests}
+use Rattle.rz_num.specs.declared.width.Width.{Width}
+use Rattle.rz_num.specs.declared.width.Width.TheVariants.{W8, W16, W32, W64}
+use Rattle.rz_isa.specs.declared.rows.OpMap.{OpMap}
+use Rattle.rz_isa.specs.declared.rows.OpMap.TheVariants as maps
+use Rattle.rz_isa.specs.declared.rows.F3Rule.{F3Rule}
+use Rattle.rz_isa.specs.declared.rows.F3Rule.TheVariants as f3s
+use Rattle.rz_isa.specs.declared.rows.Size.{Size}
+use Rattle.rz_isa.specs.declared.rows.Size.TheVariants as sizes
+use Rattle.rz_isa.specs.declared.rows.RmRule.{RmRule}
+use Rattle.rz_isa.specs.declared.rows.RmRule.TheVariants as rules
+use Rattle.rz_isa.specs.declared.rows.ImmKind.{ImmKind}
+use Rattle.rz_isa.specs.declared.rows.ImmKind.TheVariants as imms
+use Rattle.rz_isa.specs.declared.rows.Row.{Row}
+use Rattle.rz_isa.specs.declared.rows.Letter.TheVariants as letters
+use Rattle.rz_isa.specs.declared.rows.Op.{Op}
+use Rattle.rz_isa.specs.declared.rows.Op.TheVariants as ops
+use Rattle.rz_isa.specs.declared.instruction.Reg.{Reg}
+use Rattle.rz_isa.specs.declared.instruction.Reg.TheVariants as regs
+use Rattle.rz_isa.specs.declared.instruction.Mem.{Mem}
+use Rattle.rz_isa.specs.declared.instruction.Place.{Place}
+use Rattle.rz_isa.specs.declared.instruction.Place.TheVariants as places
+use Rattle.rz_isa.specs.declared.spelled.Fields.{Fields}
+use Rattle.rz_isa.specs.Number.{are_bytes, number, numbers, signed, extended, extended_to, displaced_by}
+use Rattle.rz_isa.specs.Spelling.{Parts, Fits, rex_low, bit_w, bit_r, bit_x, bit_b, is_met, w_demand, b_demand, opcode_fits, disp_len, rm_len, second, rm_fits, width_of, width_at, imm_len, full_len, times}
+use Rattle.rz_isa.specs.Fields.{byte_reg, reg_of, index_of, base_of, sib_mem, base_mem, behind_one, place_of, rm_place, rm_width, reg_field, reg_number, imm_of, rep_of, fields}
+use Rattle.rz_isa.specs.Having.{is_byte, is_wide, has_width, code_of, is_register, is_first, is_high, is_low_byte, in_reg_field, in_opcode, has_reg, is_number, is_index, is_disp, is_memory, names_register, names_memory, is_first_place, has_place, has_cond, has_imm, has_rep, w_needed, r_needed, x_needed, place_b, b_needed, rex_needed, low_byte_place, high_place, needs_rex, bars_rex, opcode_of, can_have}
+use Rattle.rz_isa.specs.Regular.{is_regular, is_block, is_exchange}
+use Rattle.rz_isa.proofs.Numbers.{number_less, numbers_1, numbers_2, numbers_full, signed_is_disp, extended_byte, extended_four}
+use Rattle.rz_isa.proofs.Again.{Had, can_of}
+use Rattle.rz_isa.proofs.Inverse.{IsRegular, regular_of}
+
+-- The fields of a spelling are fields that its row can have.
+
+-- ---- choices
+
+pub if_true : {X : Type 0} (b : Bool) (x y : X) → b ≡ true → (if b then x else y) ≡ x
+if_true b x y e = ap (λ k. if k then x else y) e
+
+pub if_false : {X : Type 0} (b : Bool) (x y : X) → b ≡ false → (if b then x else y) ≡ y
+if_false b x y e = ap (λ k. if k then x else y) e
+
+-- what holds on both ways holds of the choice
+pub if_both : {X : Type 0} (P : X → Type 0) (b : Bool) (x y : X) → (b ≡ true → P x) → (b ≡ false → P y) → P (if b then x else y)
+if_both P true x y f g = f refl
+if_both P false x y f g = g refl
+
+-- ---- the width
+
+pub width_had : (c : Size) (b n : ℕ) → has_width c (width_of c b n) ≡ true
+width_had sizes.B b n = refl
+width_had sizes.V b n = if_both (λ w. has_width sizes.V w ≡ true) (b == 1) W64 (if n == 0 then W32 else W16) (λ _. refl) (λ _. if_both (λ w. has_width sizes.V w ≡ true) (n == 0) W32 W16 (λ _. refl) (λ _. refl))
+width_had sizes.D b n = if_both (λ w. has_width sizes.D w ≡ true) (n == 0) W32 W16 (λ _. refl) (λ _. refl)
+width_had sizes.Y b n = if_both (λ w. has_width sizes.Y w ≡ true) (b == 1) W64 W32 (λ _. refl) (λ _. refl)
+width_had sizes.Q b n = refl
+width_had sizes.WQ b n = refl
+width_had sizes.N b n = refl
+
+-- ---- registers
+
+pub code_again : (w : Width) (rex : Option ℕ) (n : ℕ) → code_of (reg_of w rex n) ≡ n
+code_again W8 None n = if_both (λ r. code_of r ≡ n) (nat_lt n 4) (regs.R n) (regs.High (n - 4)) (λ _. refl) (λ e. (let le : 4 ≤ n = grind (arith, nat_tests) in omega arith))
+code_again W8 (Some r) n = refl
+code_again W16 rex n = refl
+code_again W32 rex n = refl
+code_again W64 rex n = refl
+
+pub registered : (w : Width) (rex : Option ℕ) (n : ℕ) → n < 16 → (rex ≡ None → n < 8) → is_register w (reg_of w rex n) ≡ true
+registered W8 None n lt low = (let l = low refl in if_both (λ r. is_register W8 r ≡ true) (nat_lt n 4) (regs.R n) (regs.High (n - 4)) (λ e. grind (arith, nat_tests)) (λ e. grind (arith, nat_tests)))
+registered W8 (Some r) n lt low = grind (arith, nat_tests)
+registered W16 rex n lt low = grind (arith, nat_tests)
+registered W32 rex n lt low = grind (arith, nat_tests)
+registered W64 rex n lt low = grind (arith, nat_tests)
+
+first_again : (w : Width) (rex : Option ℕ) → is_first (reg_of w rex 0) ≡ true
+first_again W8 None = refl
+first_again W8 (Some r) = refl
+first_again W16 rex = refl
+first_again W32 rex = refl
+first_again W64 rex = refl
+
+-- three bits and a bit of REX
+pub with_bit : (low bit : ℕ) → low < 8 → bit < 2 → low + 8 * bit < 16
+with_bit low bit a b = omega arith
+
+pub r_bit : (rex : Option ℕ) → bit_r rex < 2
+r_bit rex = omega arith
+
+pub x_bit : (rex : Option ℕ) → bit_x rex < 2
+x_bit rex = omega arith
+
+pub b_bit : (rex : Option ℕ) → bit_b rex < 2
+b_bit rex = omega arith
+
+no_r : (rex : Option ℕ) (low : ℕ) → low < 8 → rex ≡ None → low + 8 * bit_r rex < 8
+no_r None low lt e = omega arith
+no_r (Some r) low lt e = absurd (cc)
+
+no_x : (rex : Option ℕ) (low : ℕ) → low < 8 → rex ≡ None → low + 8 * bit_x rex < 8
+no_x None low lt e = omega arith
+no_x (Some r) low lt e = absurd (cc)
+
+no_b : (rex : Option ℕ) (low : ℕ) → low < 8 → rex ≡ None → low + 8 * bit_b rex < 8
+no_b None low lt e = omega arith
+no_b (Some r) low lt e = absurd (cc)
+
+pub field_low : (rm : List ℕ) → reg_field rm < 8
+field_low [] = omega arith
+field_low (m ∷ rest) = omega arith
+
+reg_registered : (w : Width) (p : Parts) → is_register w (reg_of w p.rex (reg_field p.rm + 8 * bit_r p.rex)) ≡ true
+reg_registered w p = registered w p.rex (reg_field p.rm + 8 * bit_r p.rex) (with_bit (reg_field p.rm) (bit_r p.rex) (field_low p.rm) (r_bit p.rex)) (no_r p.rex (reg_field p.rm) (field_low p.rm))
+
+eighth_low : (n : ℕ) → n % 8 < 8
+eighth_low n = omega arith
+
+opcode_registered : (w : Width) (p : Parts) → is_register w (reg_of w p.rex (p.opcode % 8 + 8 * bit_b p.rex)) ≡ true
+opcode_registered w p = registered w p.rex (p.opcode % 8 + 8 * bit_b p.rex) (with_bit (p.opcode % 8) (bit_b p.rex) (eighth_low p.opcode) (b_bit p.rex)) (no_b p.rex (p.opcode % 8) (eighth_low p.opcode))
+
+pub reg_of_parts : (rm : Option RmRule) (digit : Option ℕ) (span : ℕ) (w : Width) (p : Parts)
+    → (if in_reg_field rm digit || in_opcode rm span then is_register w (reg_of w p.rex (reg_number rm digit span p)) else is_first (reg_of w p.rex (reg_number rm digit span p))) ≡ true
+reg_of_parts None digit span w p = elim (cases_Bool (span == 8)) [
+  | inl y ↦ ap (λ k. if k then is_register w (reg_of w p.rex (if k then p.opcode % 8 + 8 * bit_b p.rex else 0)) else is_first (reg_of w p.rex (if k then p.opcode % 8 + 8 * bit_b p.rex else 0))) y ∙ opcode_registered w p
+  | inr n ↦ ap (λ k. if k then is_register w (reg_of w p.rex (if k then p.opcode % 8 + 8 * bit_b p.rex else 0)) else is_first (reg_of w p.rex (if k then p.opcode % 8 + 8 * bit_b p.rex else 0))) n ∙ first_again w p.rex
+]
+reg_of_parts (Some (rules.Fixed b)) digit span w p = first_again w p.rex
+reg_of_parts (Some rules.Any) (Some d) span w p = first_again w p.rex
+reg_of_parts (Some rules.Any) None span w p = reg_registered w p
+reg_of_parts (Some rules.MemoryOnly) (Some d) span w p = first_again w p.rex
+reg_of_parts (Some rules.MemoryOnly) None span w p = reg_registered w p
+reg_of_parts (Some rules.RegisterOnly) (Some d) span w p = first_again w p.rex
+reg_of_parts (Some rules.RegisterOnly) None span w p = reg_registered w p
+
+-- ---- memory
+
+base_number : (mode low b : ℕ) → low < 8 → b < 2 → is_number (base_of mode low b) ≡ true
+base_number mode low b ll lb = if_both (λ o. is_number o ≡ true) (mode == 0 && low == 5) None (Some (low + 8 * b)) (λ _. refl) (λ _. grind (arith, nat_tests))
+
+quarter : (n : ℕ) → n < 4 → (2 ^ n == 1 || 2 ^ n == 2 || 2 ^ n == 4 || 2 ^ n == 8) ≡ true
+quarter zero lt = refl
+quarter (suc zero) lt = refl
+quarter (suc (suc zero)) lt = refl
+quarter (suc (suc (suc zero))) lt = refl
+quarter (suc (suc (suc (suc n)))) lt = absurd (omega arith)
+
+four_tests : (a b c : Bool) → a ≡ true → b ≡ true → c ≡ true → (a && b && c) ≡ true
+four_tests a b c ea eb ec = grind arith
+
+index_number : (n s : ℕ) → n < 16 → s < 4 → is_index (index_of n) (if is_some (index_of n) then 2 ^ s else 1) ≡ true
+index_number n s ln ls = if_both (λ o. is_index o (if is_some o then 2 ^ s else 1) ≡ true) (n == 4) None (Some n) (λ _. refl) (λ e. four_tests (nat_lt n 16) (not (n == 4)) (2 ^ s == 1 || 2 ^ s == 2 || 2 ^ s == 4 || 2 ^ s == 8) (grind (arith, nat_tests)) (grind (arith, nat_tests)) (quarter s ls))
+
+behind_bytes : (bs : List ℕ) → are_bytes bs ≡ true → are_bytes (behind_one bs) ≡ true
+behind_bytes [] h = refl
+behind_bytes (b ∷ bs) h = grind arith
+
+behind_short : (bs : List ℕ) → length bs ≤ 5 → length (behind_one bs) ≤ 4
+behind_short [] h = omega arith
+behind_short (b ∷ bs) h = omega arith
+
+sib_memory : (mode sib : ℕ) (rex : Option ℕ) (disp : List ℕ) → sib < 256 → are_bytes disp ≡ true → length disp ≤ 4 → is_memory (sib_mem mode sib rex disp) ≡ true
+sib_memory mode sib rex disp lt h short = four_tests _ _ _
+  (base_number mode (sib % 8) (bit_b rex) (omega arith) (b_bit rex))
+  (index_number (sib / 8 % 8 + 8 * bit_x rex) (sib / 64) (with_bit (sib / 8 % 8) (bit_x rex) (omega arith) (x_bit rex)) (omega arith))
+  (signed_is_disp disp h short)
+
+base_memory : (low : ℕ) (rex : Option ℕ) (disp : List ℕ) → low < 8 → are_bytes disp ≡ true → length disp ≤ 4 → is_memory (base_mem low rex disp) ≡ true
+base_memory low rex disp lt h short = four_tests _ _ _ (grind (arith, nat_tests, b_bit rex)) refl (signed_is_disp disp h short)
+
+second_byte : (m : ℕ) (rest : List ℕ) → are_bytes rest ≡ true → second (m ∷ rest) < 256
+second_byte m [] h = omega arith
+second_byte m (s ∷ rest) h = grind (arith, nat_tests)
+
+pub disp_short : (mode low : ℕ) → disp_len mode low ≤ 4
+disp_short mode low = grind arith
+
+address_small : (a : ℕ) → nat_lt (a % 2 ^ 64) (2 ^ 64) ≡ true
+address_small a = (let lt : a % 2 ^ 64 < 2 ^ 64 = omega arith in grind (arith, nat_tests))
+
+or_left : (a b : Bool) → a ≡ true → (a || b) ≡ true
+or_left a b e = grind arith
+
+-- mod 11 names a register, every other mod names memory
+pub place_register : (v : Width) (rex : Option ℕ) (next m : ℕ) (rest : List ℕ) → (m / 64 == 3) ≡ true → names_register v (place_of v rex next (m ∷ rest)) ≡ true
+place_register v rex next m rest y = ap (names_register v) (if_true (m / 64 == 3) _ _ y) ∙ registered v rex (m % 8 + 8 * bit_b rex) (with_bit (m % 8) (bit_b rex) (eighth_low m) (b_bit rex)) (no_b rex (m % 8) (eighth_low m))
+
+pub place_memory : (v : Width) (rex : Option ℕ) (next m : ℕ) (rest : List ℕ) → are_bytes rest ≡ true → 1 + length rest ≡ rm_len m (second (m ∷ rest)) → (m / 64 == 3) ≡ false
+    → names_memory (place_of v rex next (m ∷ rest)) ≡ true
+place_memory v rex next m rest h len n = ap names_memory (if_false (m / 64 == 3) _ _ n) ∙ elim (cases_Bool (m % 8 == 4)) [
+  | inl y ↦
+      (let l : 1 + length rest ≡ 2 + disp_len (m / 64) (second (m ∷ rest) % 8) = len ∙ (if_false (m / 64 == 3) _ _ n ∙ if_true (m % 8 == 4) _ _ y) in
+      let short = disp_short (m / 64) (second (m ∷ rest) % 8) in
+      ap names_memory (if_true (m % 8 == 4) _ _ y) ∙ sib_memory (m / 64) (second (m ∷ rest)) rex (behind_one rest) (second_byte m rest h) (behind_bytes rest h) (behind_short rest (omega arith)))
+  | inr k ↦
+      (let l : 1 + length rest ≡ 1 + disp_len (m / 64) (m % 8) = len ∙ (if_false (m / 64 == 3) _ _ n ∙ if_false (m % 8 == 4) _ _ k) in
+      let short = disp_short (m / 64) (m % 8) in
+      ap names_memory (if_false (m % 8 == 4) _ _ k) ∙ if_both (λ p. names_memory p ≡ true) (m / 64 == 0 && m % 8 == 5) (places.At (displaced_by next rest)) (places.Mem (base_mem (m % 8) rex rest))
+      (λ _. address_small (next + extended rest))
+      (λ _. base_memory (m % 8) rex rest (eighth_low m) h (omega arith)))
+]
