@@ -28,7 +28,7 @@ use Rattle.rz_isa.specs.declared.spelled.Fields.{Fields}
 use Rattle.rz_isa.specs.Number.{are_bytes, number, numbers, signed, extended, extended_to, displaced_by}
 use Rattle.rz_isa.specs.Spelling.{Parts, Fits, rex_low, bit_w, bit_r, bit_x, bit_b, is_met, w_demand, b_demand, opcode_fits, disp_len, rm_len, second, rm_fits, width_of, width_at, imm_len, full_len, times}
 use Rattle.rz_isa.specs.Fields.{byte_reg, reg_of, index_of, base_of, sib_mem, base_mem, behind_one, place_of, rm_place, rm_width, reg_field, reg_number, imm_of, rep_of, fields}
-use Rattle.rz_isa.specs.Having.{is_byte, is_wide, has_width, code_of, is_register, is_first, is_high, is_low_byte, in_reg_field, in_opcode, has_reg, is_number, is_index, is_disp, is_memory, names_register, names_memory, is_first_place, has_place, has_cond, has_imm, has_rep, w_needed, r_needed, x_needed, place_b, b_needed, rex_needed, low_byte_place, high_place, needs_rex, bars_rex, opcode_of, can_have}
+use Rattle.rz_isa.specs.Having.{is_byte, is_wide, has_width, code_of, is_register, is_first, is_high, is_low_byte, in_reg_field, in_opcode, has_reg, is_number, is_index, is_disp, is_memory, names_register, names_memory, is_first_place, has_place, has_cond, has_imm, has_rep, w_needed, r_needed, x_needed, place_b, b_needed, rex_needed, low_byte_place, high_place, number_in, needs_rex, bars_rex, opcode_of, can_have}
 use Rattle.rz_isa.specs.Regular.{is_regular, is_block, is_exchange}
 use Rattle.rz_isa.proofs.Numbers.{number_less, numbers_1, numbers_2, numbers_full, signed_is_disp, extended_byte, extended_four}
 use Rattle.rz_isa.proofs.Again.{Had, can_of}
@@ -201,3 +201,190 @@ place_memory v rex next m rest h len n = ap names_memory (if_false (m / 64 == 3)
       (λ _. address_small (next + extended rest))
       (λ _. base_memory (m % 8) rex rest (eighth_low m) h (omega arith)))
 ]
+
+-- ---- the ModRM operand
+
+fixed_false : (b : Bool) → b ≡ true → b ≡ false → ⊥
+fixed_false b t f = cc
+
+rm_parts : (a b c : Bool) → (a && b && c) ≡ true → (a ≡ true) × (b ≡ true) × (c ≡ true)
+rm_parts a b c h = (grind arith, grind arith, grind arith)
+
+rm_length : (n k : ℕ) → (n == k) ≡ true → n ≡ k
+rm_length n k h = grind (arith, nat_tests)
+
+pub place_had : (rm : Option RmRule) (digit : Option ℕ) (v : Width) (rex : Option ℕ) (next : ℕ) (bs : List ℕ) → rm_fits rm digit bs ≡ true → are_bytes bs ≡ true
+    → has_place rm v (rm_place rm v rex next bs) ≡ true
+place_had None digit v rex next [] fit h = refl
+place_had None digit v rex next (m ∷ rest) fit h = absurd (cc)
+place_had (Some rule) digit v rex next [] fit h = absurd (cc)
+place_had (Some (rules.Fixed b)) digit v rex next (m ∷ rest) fit h = refl
+place_had (Some rules.Any) digit v rex next (m ∷ rest) fit h =
+    let t = rm_parts true (is_met digit (m / 8 % 8)) (1 + length rest == rm_len m (second (m ∷ rest))) fit in
+    elim (cases_Bool (m / 64 == 3)) [
+      | inl y ↦ or_left _ _ (place_register v rex next m rest y)
+      | inr n ↦ or_right _ _ (place_memory v rex next m rest (grind arith) (rm_length _ _ t.2) n)
+    ]
+  where
+    or_right : (a b : Bool) → b ≡ true → (a || b) ≡ true
+    or_right a b e = grind arith
+place_had (Some rules.MemoryOnly) digit v rex next (m ∷ rest) fit h =
+    let t = rm_parts (not (m / 64 == 3)) (is_met digit (m / 8 % 8)) (1 + length rest == rm_len m (second (m ∷ rest))) fit in
+    place_memory v rex next m rest (grind arith) (rm_length _ _ t.2) (unnot (m / 64 == 3) t.0)
+  where
+    unnot : (b : Bool) → not b ≡ true → b ≡ false
+    unnot b h = grind arith
+place_had (Some rules.RegisterOnly) digit v rex next (m ∷ rest) fit h =
+    let t = rm_parts (m / 64 == 3) (is_met digit (m / 8 % 8)) (1 + length rest == rm_len m (second (m ∷ rest))) fit in
+    place_register v rex next m rest t.0
+
+-- ---- the other fields
+
+pub cond_of_opcode : (span o : ℕ) → has_cond span (if span == 16 then o % 16 else 0) ≡ true
+cond_of_opcode span o = elim (cases_Bool (span == 16)) [
+  | inl y ↦ (let l : nat_lt (o % 16) 16 ≡ true = grind (arith, nat_tests) in ap (λ k. if k then nat_lt (if k then o % 16 else 0) 16 else (if k then o % 16 else 0) == 0) y ∙ l)
+  | inr n ↦ ap (λ k. if k then nat_lt (if k then o % 16 else 0) 16 else (if k then o % 16 else 0) == 0) n
+]
+
+below : (n m : ℕ) → n < m → nat_lt n m ≡ true
+below n m lt = grind (arith, nat_tests)
+
+number_below : (bs : List ℕ) (m : ℕ) → are_bytes bs ≡ true → numbers bs ≡ m → nat_lt (number bs) m ≡ true
+number_below bs m h e = below (number bs) m (subst (λ k. number bs < k) e (number_less bs h))
+
+pub imm_had : (k : Option ImmKind) (w : Width) (next : ℕ) (bs : List ℕ) → are_bytes bs ≡ true → length bs ≡ imm_len k w → has_imm k w (imm_of k w next bs) ≡ true
+imm_had None w next bs h len = refl
+imm_had (Some imms.Ib) w next bs h len = number_below bs (2 ^ 8) h (numbers_1 bs len)
+imm_had (Some imms.Ibs) w next bs h len = extended_byte bs w h len
+imm_had (Some imms.Iw) w next bs h len = number_below bs (2 ^ 16) h (numbers_2 bs len)
+imm_had (Some imms.Iz) W8 next bs h len = below (extended bs % 2 ^ 8) (2 ^ 8) (omega arith)
+imm_had (Some imms.Iz) W16 next bs h len = below (extended bs % 2 ^ 16) (2 ^ 16) (omega arith)
+imm_had (Some imms.Iz) W32 next bs h len = below (extended bs % 2 ^ 32) (2 ^ 32) (omega arith)
+imm_had (Some imms.Iz) W64 next bs h len = extended_four bs h len
+imm_had (Some imms.Iv) W8 next bs h len = number_below bs (2 ^ 8) h (numbers_full W8 bs len)
+imm_had (Some imms.Iv) W16 next bs h len = number_below bs (2 ^ 16) h (numbers_full W16 bs len)
+imm_had (Some imms.Iv) W32 next bs h len = number_below bs (2 ^ 32) h (numbers_full W32 bs len)
+imm_had (Some imms.Iv) W64 next bs h len = number_below bs (2 ^ 64) h (numbers_full W64 bs len)
+imm_had (Some imms.J8) w next bs h len = address_small (next + extended bs)
+imm_had (Some imms.J32) w next bs h len = address_small (next + extended bs)
+
+pub rep_of_prefixes : (r : F3Rule) (n : ℕ) → has_rep r (rep_of r n) ≡ true
+rep_of_prefixes f3s.Repeats n = if_both (λ k. (k == 0 || k == 0xf3) ≡ true) (n == 0) 0 0xf3 (λ _. refl) (λ _. refl)
+rep_of_prefixes f3s.No n = refl
+rep_of_prefixes f3s.Allowed n = refl
+rep_of_prefixes f3s.Required n = refl
+
+-- ---- REX: with one no register is AH, CH, DH or BH, without one none needs it
+
+not_high : (w : Width) (r n : ℕ) → is_high (reg_of w (Some r) n) ≡ false
+not_high W8 r n = refl
+not_high W16 r n = refl
+not_high W32 r n = refl
+not_high W64 r n = refl
+
+place_not_high : (v : Width) (r next : ℕ) (bs : List ℕ) → high_place (place_of v (Some r) next bs) ≡ false
+place_not_high v r next [] = refl
+place_not_high v r next (m ∷ rest) =
+    if_both (λ p. high_place p ≡ false) (m / 64 == 3) (places.Reg (reg_of v (Some r) (m % 8 + 8 * bit_b (Some r)))) _ (λ _. not_high v r (m % 8 + 8 * bit_b (Some r)))
+    (λ _. if_both (λ p. high_place p ≡ false) (m % 8 == 4) (places.Mem (sib_mem (m / 64) (second (m ∷ rest)) (Some r) (behind_one rest))) _ (λ _. refl)
+      (λ _. if_both (λ p. high_place p ≡ false) (m / 64 == 0 && m % 8 == 5) (places.At (displaced_by next rest)) (places.Mem (base_mem (m % 8) (Some r) rest)) (λ _. refl) (λ _. refl)))
+
+rm_not_high : (rm : Option RmRule) (v : Width) (r next : ℕ) (bs : List ℕ) → high_place (rm_place rm v (Some r) next bs) ≡ false
+rm_not_high None v r next bs = place_not_high v r next bs
+rm_not_high (Some rules.Any) v r next bs = place_not_high v r next bs
+rm_not_high (Some rules.MemoryOnly) v r next bs = place_not_high v r next bs
+rm_not_high (Some rules.RegisterOnly) v r next bs = place_not_high v r next bs
+rm_not_high (Some (rules.Fixed b)) v r next bs = refl
+
+not_low : (w : Width) (n : ℕ) → is_low_byte w (reg_of w None n) ≡ false
+not_low W8 n = if_both (λ r. is_low_byte W8 r ≡ false) (nat_lt n 4) (regs.R n) (regs.High (n - 4)) (λ e. grind (arith, nat_tests)) (λ _. refl)
+not_low W16 n = refl
+not_low W32 n = refl
+not_low W64 n = refl
+
+first_not_low : (w : Width) → is_low_byte w (regs.R 0) ≡ false
+first_not_low W8 = refl
+first_not_low W16 = refl
+first_not_low W32 = refl
+first_not_low W64 = refl
+
+place_not_low : (v : Width) (next : ℕ) (bs : List ℕ) → low_byte_place v (place_of v None next bs) ≡ false
+place_not_low v next [] = first_not_low v
+place_not_low v next (m ∷ rest) =
+    if_both (λ p. low_byte_place v p ≡ false) (m / 64 == 3) (places.Reg (reg_of v None (m % 8 + 8 * bit_b None))) _ (λ _. not_low v (m % 8 + 8 * bit_b None))
+    (λ _. if_both (λ p. low_byte_place v p ≡ false) (m % 8 == 4) (places.Mem (sib_mem (m / 64) (second (m ∷ rest)) None (behind_one rest))) _ (λ _. refl)
+      (λ _. if_both (λ p. low_byte_place v p ≡ false) (m / 64 == 0 && m % 8 == 5) (places.At (displaced_by next rest)) (places.Mem (base_mem (m % 8) None rest)) (λ _. refl) (λ _. refl)))
+
+rm_not_low : (rm : Option RmRule) (v : Width) (next : ℕ) (bs : List ℕ) → low_byte_place v (rm_place rm v None next bs) ≡ false
+rm_not_low None v next bs = place_not_low v next bs
+rm_not_low (Some rules.Any) v next bs = place_not_low v next bs
+rm_not_low (Some rules.MemoryOnly) v next bs = place_not_low v next bs
+rm_not_low (Some rules.RegisterOnly) v next bs = place_not_low v next bs
+rm_not_low (Some (rules.Fixed b)) v next bs = first_not_low v
+
+-- ---- the bits of REX that the fields need are among those that stand there
+
+w_of_size : (c : Size) (b n : ℕ) → b < 2 → is_met (w_demand c) b ≡ true → w_needed c (width_of c b n) ≤ b
+w_of_size sizes.B b n lt m = omega arith
+w_of_size sizes.V b n lt m = if_both (λ w. (if is_wide w then 1 else 0) ≤ b) (b == 1) W64 (if n == 0 then W32 else W16) (λ e. grind (arith, nat_tests))
+  (λ _. if_both (λ w. (if is_wide w then 1 else 0) ≤ b) (n == 0) W32 W16 (λ _. omega arith) (λ _. omega arith))
+w_of_size sizes.D b n lt m = omega arith
+w_of_size sizes.Y b n lt m = if_both (λ w. (if is_wide w then 1 else 0) ≤ b) (b == 1) W64 W32 (λ e. grind (arith, nat_tests)) (λ _. omega arith)
+w_of_size sizes.Q b n lt m = omega arith
+w_of_size sizes.WQ b n lt m = grind (arith, nat_tests)
+w_of_size sizes.N b n lt m = omega arith
+
+place_x : (v : Width) (rex : Option ℕ) (next : ℕ) (bs : List ℕ) → x_needed (place_of v rex next bs) ≤ bit_x rex
+place_x v rex next [] = omega arith
+place_x v rex next (m ∷ rest) =
+    if_both (λ p. x_needed p ≤ bit_x rex) (m / 64 == 3) (places.Reg (reg_of v rex (m % 8 + 8 * bit_b rex))) _ (λ _. omega arith)
+    (λ _. if_both (λ p. x_needed p ≤ bit_x rex) (m % 8 == 4) (places.Mem (sib_mem (m / 64) (second (m ∷ rest)) rex (behind_one rest))) _ (λ _. indexed (second (m ∷ rest) / 8 % 8) (bit_x rex) (omega arith))
+      (λ _. if_both (λ p. x_needed p ≤ bit_x rex) (m / 64 == 0 && m % 8 == 5) (places.At (displaced_by next rest)) (places.Mem (base_mem (m % 8) rex rest)) (λ _. omega arith) (λ _. omega arith)))
+  where
+    indexed : (low b : ℕ) → low < 8 → number_in (index_of (low + 8 * b)) / 8 ≤ b
+    indexed low b lt = if_both (λ o. number_in o / 8 ≤ b) (low + 8 * b == 4) None (Some (low + 8 * b)) (λ _. omega arith) (λ _. omega arith)
+
+rm_x : (rm : Option RmRule) (v : Width) (rex : Option ℕ) (next : ℕ) (bs : List ℕ) → x_needed (rm_place rm v rex next bs) ≤ bit_x rex
+rm_x None v rex next bs = place_x v rex next bs
+rm_x (Some rules.Any) v rex next bs = place_x v rex next bs
+rm_x (Some rules.MemoryOnly) v rex next bs = place_x v rex next bs
+rm_x (Some rules.RegisterOnly) v rex next bs = place_x v rex next bs
+rm_x (Some (rules.Fixed b)) v rex next bs = omega arith
+
+reg_b : (v : Width) (rex : Option ℕ) (low b : ℕ) → low < 8 → code_of (reg_of v rex (low + 8 * b)) / 8 ≤ b
+reg_b v rex low b lt = subst (λ k. k / 8 ≤ b) (sym (code_again v rex (low + 8 * b))) (omega arith)
+
+place_of_b : (v : Width) (rex : Option ℕ) (next : ℕ) (bs : List ℕ) → place_b (place_of v rex next bs) ≤ bit_b rex
+place_of_b v rex next [] = omega arith
+place_of_b v rex next (m ∷ rest) =
+    if_both (λ p. place_b p ≤ bit_b rex) (m / 64 == 3) (places.Reg (reg_of v rex (m % 8 + 8 * bit_b rex))) _ (λ _. reg_b v rex (m % 8) (bit_b rex) (eighth_low m))
+    (λ _. if_both (λ p. place_b p ≤ bit_b rex) (m % 8 == 4) (places.Mem (sib_mem (m / 64) (second (m ∷ rest)) rex (behind_one rest))) _ (λ _. based (m / 64) (second (m ∷ rest) % 8) (bit_b rex) (omega arith))
+      (λ _. if_both (λ p. place_b p ≤ bit_b rex) (m / 64 == 0 && m % 8 == 5) (places.At (displaced_by next rest)) (places.Mem (base_mem (m % 8) rex rest)) (λ _. omega arith) (λ _. omega arith)))
+  where
+    based : (mode low b : ℕ) → low < 8 → number_in (base_of mode low b) / 8 ≤ b
+    based mode low b lt = if_both (λ o. number_in o / 8 ≤ b) (mode == 0 && low == 5) None (Some (low + 8 * b)) (λ _. omega arith) (λ _. omega arith)
+
+rm_b : (rm : Option RmRule) (v : Width) (rex : Option ℕ) (next : ℕ) (bs : List ℕ) → place_b (rm_place rm v rex next bs) ≤ bit_b rex
+rm_b None v rex next bs = place_of_b v rex next bs
+rm_b (Some rules.Any) v rex next bs = place_of_b v rex next bs
+rm_b (Some rules.MemoryOnly) v rex next bs = place_of_b v rex next bs
+rm_b (Some rules.RegisterOnly) v rex next bs = place_of_b v rex next bs
+rm_b (Some (rules.Fixed b)) v rex next bs = omega arith
+
+reg_r : (rm : Option RmRule) (digit : Option ℕ) (span : ℕ) (w : Width) (p : Parts) → (if in_reg_field rm digit then code_of (reg_of w p.rex (reg_number rm digit span p)) / 8 else 0) ≤ bit_r p.rex
+reg_r None digit span w p = omega arith
+reg_r (Some (rules.Fixed b)) digit span w p = omega arith
+reg_r (Some rules.Any) (Some d) span w p = omega arith
+reg_r (Some rules.Any) None span w p = reg_b w p.rex (reg_field p.rm) (bit_r p.rex) (field_low p.rm)
+reg_r (Some rules.MemoryOnly) (Some d) span w p = omega arith
+reg_r (Some rules.MemoryOnly) None span w p = reg_b w p.rex (reg_field p.rm) (bit_r p.rex) (field_low p.rm)
+reg_r (Some rules.RegisterOnly) (Some d) span w p = omega arith
+reg_r (Some rules.RegisterOnly) None span w p = reg_b w p.rex (reg_field p.rm) (bit_r p.rex) (field_low p.rm)
+
+opcode_b : (rm : Option RmRule) (digit : Option ℕ) (span : ℕ) (w v : Width) (p : Parts) (next : ℕ)
+    → (if in_opcode rm span then code_of (reg_of w p.rex (reg_number rm digit span p)) / 8 else place_b (rm_place rm v p.rex next p.rm)) ≤ bit_b p.rex
+opcode_b None digit span w v p next = elim (cases_Bool (span == 8)) [
+  | inl y ↦ subst (λ k. (if k then code_of (reg_of w p.rex (if k then p.opcode % 8 + 8 * bit_b p.rex else 0)) / 8 else place_b (place_of v p.rex next p.rm)) ≤ bit_b p.rex) (sym y) (reg_b w p.rex (p.opcode % 8) (bit_b p.rex) (eighth_low p.opcode))
+  | inr n ↦ subst (λ k. (if k then code_of (reg_of w p.rex (if k then p.opcode % 8 + 8 * bit_b p.rex else 0)) / 8 else place_b (place_of v p.rex next p.rm)) ≤ bit_b p.rex) (sym n) (place_of_b v p.rex next p.rm)
+]
+opcode_b (Some r) digit span w v p next = rm_b (Some r) v p.rex next p.rm
