@@ -388,3 +388,146 @@ opcode_b None digit span w v p next = elim (cases_Bool (span == 8)) [
   | inr n ↦ subst (λ k. (if k then code_of (reg_of w p.rex (if k then p.opcode % 8 + 8 * bit_b p.rex else 0)) / 8 else place_b (place_of v p.rex next p.rm)) ≤ bit_b p.rex) (sym n) (place_of_b v p.rex next p.rm)
 ]
 opcode_b (Some r) digit span w v p next = rm_b (Some r) v p.rex next p.rm
+
+-- ---- both joined tests
+
+abbrev pub rm_of : Row → Parts → ℕ → Place
+rm_of row p next = rm_place row.rm (rm_width row.op (width_at row p)) p.rex next p.rm
+
+pub w_bit : (rex : Option ℕ) → bit_w rex < 2
+w_bit None = omega arith
+w_bit (Some r) = omega arith
+
+no_bits : (rex : Option ℕ) → rex ≡ None → (bit_w rex ≡ 0) × (bit_r rex ≡ 0) × (bit_x rex ≡ 0) × (bit_b rex ≡ 0)
+no_bits None e = (refl, refl, refl, refl)
+no_bits (Some r) e = absurd (cc)
+
+not_positive : (n : ℕ) → n ≡ 0 → nat_lt 0 n ≡ false
+not_positive n e = grind (arith, nat_tests)
+
+three_false : (a b c : Bool) → a ≡ false → b ≡ false → c ≡ false → (a || b || c) ≡ false
+three_false a b c ea eb ec = grind arith
+
+sum_zero : (a b c d : ℕ) → a ≤ 0 → b ≤ 0 → c ≤ 0 → d ≤ 0 → 8 * a + 4 * b + 2 * c + d ≡ 0
+sum_zero a b c d ea eb ec ed = omega arith
+
+at_zero : (a b : ℕ) → a ≤ b → b ≡ 0 → a ≤ 0
+at_zero a b le e = omega arith
+
+pub none_needed : (row : Row) (p : Parts) (next : ℕ) → Fits row p → p.rex ≡ None → needs_rex row (fields row p next) ≡ false
+none_needed row p next fit e =
+    let w = width_at row p in
+    let v = rm_width row.op w in
+    let z = no_bits p.rex e in
+    let a = at_zero _ _ (w_of_size row.size (bit_w p.rex) (times 0x66 p.prefixes) (w_bit p.rex) fit.w) z.0 in
+    let b = at_zero _ _ (reg_r row.rm row.digit row.span w p) z.1 in
+    let c = at_zero _ _ (rm_x row.rm v p.rex next p.rm) z.2 in
+    let d = at_zero _ _ (opcode_b row.rm row.digit row.span w v p next) z.3 in
+    let n : rex_needed row (fields row p next) ≡ 0 = sum_zero _ _ _ _ a b c d in
+    three_false _ _ _
+    (not_positive (rex_needed row (fields row p next)) n)
+    (ap (λ x. is_low_byte w (reg_of w x (reg_number row.rm row.digit row.span p))) e ∙ not_low w (reg_number row.rm row.digit row.span p))
+    (ap (λ x. low_byte_place v (rm_place row.rm v x next p.rm)) e ∙ rm_not_low row.rm v next p.rm)
+
+two_false : (a b : Bool) → a ≡ false → b ≡ false → (a || b) ≡ false
+two_false a b ea eb = grind arith
+
+pub none_barred : (row : Row) (p : Parts) (next r : ℕ) → p.rex ≡ Some r → bars_rex (fields row p next) ≡ false
+none_barred row p next r e =
+    let w = width_at row p in
+    let v = rm_width row.op w in
+    two_false _ _
+    (ap (λ x. is_high (reg_of w x (reg_number row.rm row.digit row.span p))) e ∙ not_high w r (reg_number row.rm row.digit row.span p))
+    (ap (λ x. high_place (rm_place row.rm v x next p.rm)) e ∙ rm_not_high row.rm v r next p.rm)
+
+pub rex_joined : (row : Row) (p : Parts) (next : ℕ) → Fits row p → not (bars_rex (fields row p next) && needs_rex row (fields row p next)) ≡ true
+rex_joined row p next fit = by_rex p.rex refl
+  where
+    left : (a b : Bool) → a ≡ false → not (a && b) ≡ true
+    left a b e = grind arith
+    right : (a b : Bool) → b ≡ false → not (a && b) ≡ true
+    right a b e = grind arith
+    by_rex : (o : Option ℕ) → p.rex ≡ o → not (bars_rex (fields row p next) && needs_rex row (fields row p next)) ≡ true
+    by_rex None e = right _ _ (none_needed row p next fit e)
+    by_rex (Some r) e = left _ _ (none_barred row p next r e)
+
+-- ---- REX.B where the row demands it
+
+zero_met : (op : Op) (m : OpMap) (o n : ℕ) → n ≡ 0 → is_exchange op ≡ false → is_met (b_demand op m o) n ≡ true
+zero_met (ops.Xchg letters.O letters.A) m o n e x = absurd (cc)
+zero_met ops.Nop maps.One o n e x = elim (cases_Bool (o == 0x90)) [ inl y ↦ grind (arith, nat_tests) | inr k ↦ grind (arith, nat_tests) ]
+zero_met _ m o n e x = refl
+
+undemanding : (op : Op) (m : OpMap) (o n : ℕ) → is_some (b_demand op m 0x90) ≡ false → is_met (b_demand op m o) n ≡ true
+undemanding (ops.Xchg letters.O letters.A) m o n e = absurd (cc)
+undemanding ops.Nop maps.One o n e = absurd (cc)
+undemanding _ m o n e = refl
+
+no_rm : (d : Bool) (r : Option RmRule) → d ≡ true → not (d && is_some r) ≡ true → r ≡ None
+no_rm d None e h = refl
+no_rm d (Some r) e h = absurd (never d e (grind arith))
+  where
+    never : (d : Bool) → d ≡ true → d ≡ false → ⊥
+    never d t f = cc
+
+no_bytes : (digit : Option ℕ) (bs : List ℕ) → rm_fits None digit bs ≡ true → bs ≡ []
+no_bytes digit [] h = refl
+no_bytes digit (b ∷ bs) h = absurd (cc)
+
+pub eight_aligned : (r : Row) → is_block r ≡ true → (r.span == 8) ≡ true → r.opcode % 8 ≡ 0
+eight_aligned r b s = grind (arith, nat_tests)
+
+pub exchange_eight : (x b : Bool) → (not x || b) ≡ true → b ≡ false → x ≡ false
+exchange_eight x b h e = grind arith
+
+opcode_again : (base o b : ℕ) → base % 8 ≡ 0 → base ≤ o → o < base + 8 → b < 2 → (base + (o % 8 + 8 * b) % 8 ≡ o) × ((o % 8 + 8 * b) / 8 ≡ b)
+opcode_again base o b z le lt small = (omega arith, omega arith)
+
+span_is : (s : ℕ) → (s == 8) ≡ true → s ≡ 8
+span_is s e = grind (arith, nat_tests)
+
+pub demand_met : (row : Row) (p : Parts) (next : ℕ) → IsRegular row → Fits row p
+    → is_met (b_demand row.op row.map (opcode_of row (fields row p next))) (b_needed row (fields row p next)) ≡ true
+demand_met row p next reg fit = elim (cases_Bool (is_some (b_demand row.op row.map 0x90))) [
+  | inr free ↦ undemanding row.op row.map (opcode_of row (fields row p next)) (b_needed row (fields row p next)) free
+  | inl asks ↦
+      (let none = no_rm (is_some (b_demand row.op row.map 0x90)) row.rm asks reg.demand in
+      let w = width_at row p in
+      let v = rm_width row.op w in
+      elim (cases_Bool (row.span == 8)) [
+        | inl y ↦
+            (let at : in_opcode row.rm row.span ≡ true = ap (λ k. in_opcode k row.span) none ∙ y in
+            let number : reg_number row.rm row.digit row.span p ≡ p.opcode % 8 + 8 * bit_b p.rex = ap (λ k. reg_number k row.digit row.span p) none ∙ if_true (row.span == 8) _ _ y in
+            let code : code_of (reg_of w p.rex (reg_number row.rm row.digit row.span p)) ≡ p.opcode % 8 + 8 * bit_b p.rex = code_again w p.rex _ ∙ number in
+            let le : row.opcode ≤ p.opcode = grind (arith, nat_tests, fit.opcode) in
+            let lt0 : p.opcode < row.opcode + row.span = grind (arith, nat_tests, fit.opcode) in
+            let lt : p.opcode < row.opcode + 8 = subst (λ k. p.opcode < row.opcode + k) (span_is row.span y) lt0 in
+            let o = opcode_again row.opcode p.opcode (bit_b p.rex) (eight_aligned row reg.block y) le lt (b_bit p.rex) in
+            let opcode : opcode_of row (fields row p next) ≡ p.opcode = ap (λ k. row.opcode + k) (if_true (in_opcode row.rm row.span) _ _ at ∙ ap (λ k. k % 8) code) ∙ o.0 in
+            let bit : b_needed row (fields row p next) ≡ bit_b p.rex = if_true (in_opcode row.rm row.span) _ _ at ∙ (ap (λ k. k / 8) code ∙ o.1) in
+            subst (λ k. is_met (b_demand row.op row.map k) (b_needed row (fields row p next)) ≡ true) (sym opcode)
+            (subst (λ k. is_met (b_demand row.op row.map p.opcode) k ≡ true) (sym bit) fit.b))
+        | inr n ↦
+            (let at : in_opcode row.rm row.span ≡ false = ap (λ k. in_opcode k row.span) none ∙ n in
+            let empty : p.rm ≡ [] = no_bytes row.digit p.rm (subst (λ k. rm_fits k row.digit p.rm ≡ true) none fit.rm) in
+            let place : rm_place row.rm v p.rex next p.rm ≡ places.Reg (regs.R 0) = ap (λ k. rm_place k v p.rex next p.rm) none ∙ ap (place_of v p.rex next) empty in
+            let bit : b_needed row (fields row p next) ≡ 0 = if_false (in_opcode row.rm row.span) _ _ at ∙ ap place_b place in
+            zero_met row.op row.map (opcode_of row (fields row p next)) (b_needed row (fields row p next)) bit (exchange_eight (is_exchange row.op) (row.span == 8) reg.exchange n))
+      ])
+]
+
+-- ---- all tests
+
+pub fields_had : (row : Row) (p : Parts) (next : ℕ) → is_regular row ≡ true → Fits row p → are_bytes p.rm ≡ true → are_bytes p.imm ≡ true → can_have row (fields row p next) ≡ true
+fields_had row p next regular fit rm imm =
+    let w = width_at row p in
+    can_of row (fields row p next) (record {
+      w = width_had row.size (bit_w p.rex) (times 0x66 p.prefixes);
+      reg = reg_of_parts row.rm row.digit row.span w p;
+      rm = place_had row.rm row.digit (rm_width row.op w) p.rex next p.rm fit.rm rm;
+      cond = cond_of_opcode row.span p.opcode;
+      imm = imm_had row.imm w next p.imm imm (rm_length (length p.imm) (imm_len row.imm w) fit.imm);
+      rep = rep_of_prefixes row.f3 (times 0xf3 p.prefixes);
+      rex = rex_joined row p next fit;
+      b = demand_met row p next (regular_of row regular) fit;
+    })
