@@ -8,3 +8,5 @@ pub mod Lesser
 pub mod Inverse
 pub mod Numbers
 pub mod Complete
+pub mod Read
+pub mod Sound
