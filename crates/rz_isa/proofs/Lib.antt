@@ -10,3 +10,4 @@ pub mod Numbers
 pub mod Complete
 pub mod Read
 pub mod Sound
+pub mod Parts
