@@ -32,7 +32,7 @@ pub record IsRegular (r : Row) : Type 0 where
   pub alone : not (stands_alone r.imm && is_some r.rm) ≡ true
   pub block : is_block r ≡ true
   pub digit : digit_small r.digit ≡ true
-  pub rule : rule_small r.rm ≡ true
+  pub rule : rule_small r.rm r.digit ≡ true
   pub demand : not (is_some (b_demand r.op r.map 0x90) && is_some r.rm) ≡ true
   pub exchange : (not (is_exchange r.op) || r.span == 8) ≡ true
 
@@ -52,7 +52,7 @@ nine a b c d e f g h i x = record { one = grind arith; two = grind arith; three 
 
 pub regular_of : (r : Row) → is_regular r ≡ true → IsRegular r
 regular_of r h =
-    let n = nine (operands_apart r.op) (imm_suits r.op r.imm) (width_suits r.op r.size) (not (stands_alone r.imm && is_some r.rm)) (is_block r) (digit_small r.digit) (rule_small r.rm)
+    let n = nine (operands_apart r.op) (imm_suits r.op r.imm) (width_suits r.op r.size) (not (stands_alone r.imm && is_some r.rm)) (is_block r) (digit_small r.digit) (rule_small r.rm r.digit)
       (not (is_some (b_demand r.op r.map 0x90) && is_some r.rm)) (not (is_exchange r.op) || r.span == 8) h in
     record { operands = n.one; imm = n.two; width = n.three; alone = n.four; block = n.five; digit = n.six; rule = n.seven; demand = n.eight; exchange = n.nine }
 

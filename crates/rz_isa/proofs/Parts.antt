@@ -291,3 +291,193 @@ pub place_suits : (row : Row) (f : Fields) (r : Reg) → Had row f → f.rm ≡ 
 place_suits row f r h e = suits_by (needs_rex row f) (is_low_byte (rm_width row.op f.w) r) (is_high r) (0x40 + rex_needed row f) (rm_width row.op f.w) r refl refl
   (λ l. or_last (nat_lt 0 (rex_needed row f)) (is_low_byte f.w f.reg) (low_byte_place (rm_width row.op f.w) f.rm) (ap (low_byte_place (rm_width row.op f.w)) e ∙ l))
   (λ l. barred (is_high f.reg) (high_place f.rm) (needs_rex row f) (inr (ap high_place e ∙ l)) h.rex)
+
+-- ---- the ModRM operand and the register are read again
+
+pub record RmRead (rm : Option RmRule) (digit : Option ℕ) (span : ℕ) (v w : Width) (rex : Option ℕ) (next : ℕ) (p : Place) (r : Reg) (o : ℕ) : Type 0 where
+  pub fits : rm_fits rm digit (rm_bytes rm digit (code_of r) next p) ≡ true
+  pub place : rm_place rm v rex next (rm_bytes rm digit (code_of r) next p) ≡ p
+  pub bytes : are_bytes (rm_bytes rm digit (code_of r) next p) ≡ true
+  pub reg : (ps is : List ℕ) → reg_of w rex (reg_number rm digit span (record { prefixes = ps; rex = rex; opcode = o; rm = rm_bytes rm digit (code_of r) next p; imm = is })) ≡ r
+
+first_place_is : (p : Place) → is_first_place p ≡ true → places.Reg (regs.R 0) ≡ p
+first_place_is (places.Reg r) h = ap places.Reg (first_is r h)
+first_place_is (places.Mem m) h = absurd (cc)
+first_place_is (places.At a) h = absurd (cc)
+
+first_number : (w : Width) (rex : Option ℕ) → reg_of w rex 0 ≡ regs.R 0
+first_number W8 None = refl
+first_number W8 (Some b) = refl
+first_number W16 rex = refl
+first_number W32 rex = refl
+first_number W64 rex = refl
+
+no_register : (w : Width) (rex : Option ℕ) (r : Reg) → is_first r ≡ true → reg_of w rex 0 ≡ r
+no_register w rex r h = first_number w rex ∙ first_is r h
+
+read_place : (v : Width) (rex : Option ℕ) (next reg : ℕ) (p : Place) → reg < 8 → next < 2 ^ 64 → (names_register v p || names_memory p) ≡ true → bit_b rex ≡ place_b p → bit_x rex ≡ x_needed p
+    → ((r : Reg) → p ≡ places.Reg r → suits rex v r ≡ true) → place_reaches next p ≡ true → PlaceRead v rex next reg p (place_bytes reg next p)
+read_place v rex next reg (places.Reg r) lr ln h eb ex hs hr = read_register v rex next reg r lr eb (reg_suits rex v r (or_false (is_register v r) h) (hs r refl))
+  where
+    or_false : (a : Bool) → (a || false) ≡ true → a ≡ true
+    or_false a h = grind arith
+read_place v rex next reg (places.Mem m) lr ln h eb ex hs hr =
+    let t = mem_parts (is_number m.base) (is_index m.index m.scale) (is_disp m.disp) h in
+    read_memory v rex next reg m.base m.index m.scale m.disp lr t.0 t.1 t.2 eb ex
+read_place v rex next reg (places.At a) lr ln h eb ex hs hr = (let la : a < 2 ^ 64 = grind (arith, nat_tests) in read_absolute v rex next reg a lr ln la hr)
+
+-- the tests of a place that was spelled
+fits_by : (rule : RmRule) (digit : Option ℕ) (v : Width) (rex : Option ℕ) (next reg : ℕ) (p : Place) (bs : List ℕ) → PlaceRead v rex next reg p bs → is_met digit reg ≡ true
+    → ((m : ℕ) → (m / 64 == 3) ≡ is_reg_place p → rule_fits rule m ≡ true) → rm_fits (Some rule) digit bs ≡ true
+fits_by rule digit v rex next reg p bs h d f = subst (λ k. rm_fits (Some rule) digit k ≡ true) (sym h.same)
+    (three (rule_fits rule h.m) (is_met digit (h.m / 8 % 8)) (1 + length h.rest == rm_len h.m (second (h.m ∷ h.rest))) (f h.m h.register) (subst (λ k. is_met digit k ≡ true) (sym h.field) d) (same _ _ h.len))
+  where
+    three : (a b c : Bool) → a ≡ true → b ≡ true → c ≡ true → (a && b && c) ≡ true
+    three a b c ea eb ec = grind arith
+    same : (a b : ℕ) → a ≡ b → (a == b) ≡ true
+    same a b e = grind (arith, nat_tests)
+
+place_by : (v : Width) (rex : Option ℕ) (next reg : ℕ) (p : Place) (bs : List ℕ) → PlaceRead v rex next reg p bs → place_of v rex next bs ≡ p
+place_by v rex next reg p bs h = ap (place_of v rex next) h.same ∙ h.place
+
+bytes_by : (v : Width) (rex : Option ℕ) (next reg : ℕ) (p : Place) (bs : List ℕ) → PlaceRead v rex next reg p bs → are_bytes bs ≡ true
+bytes_by v rex next reg p bs h = ap are_bytes h.same ∙ h.bytes
+
+field_by : (v : Width) (rex : Option ℕ) (next reg : ℕ) (p : Place) (bs : List ℕ) → PlaceRead v rex next reg p bs → reg_field bs ≡ reg
+field_by v rex next reg p bs h = ap reg_field h.same ∙ h.field
+
+digit_met : (digit : Option ℕ) (code : ℕ) → is_met digit (reg_bits digit code) ≡ true
+digit_met None code = refl
+digit_met (Some d) code = same d
+  where
+    same : (d : ℕ) → (d == d) ≡ true
+    same d = grind (arith, nat_tests)
+
+digit_low : (digit : Option ℕ) (code : ℕ) → digit_small digit ≡ true → reg_bits digit code < 8
+digit_low None code h = omega arith
+digit_low (Some d) code h = grind (arith, nat_tests)
+
+field_reg : (w : Width) (rex : Option ℕ) (r : Reg) (field : ℕ) → field ≡ code_of r % 8 → bit_r rex ≡ code_of r / 8 → is_register w r ≡ true → suits rex w r ≡ true → reg_of w rex (field + 8 * bit_r rex) ≡ r
+field_reg w rex r field ef er h s = (let n : field + 8 * bit_r rex ≡ code_of r = omega arith in ap (reg_of w rex) n ∙ reg_suits rex w r h s)
+
+opcode_reg : (w : Width) (rex : Option ℕ) (r : Reg) (base o : ℕ) → base % 8 ≡ 0 → o ≡ base + code_of r % 8 → bit_b rex ≡ code_of r / 8 → is_register w r ≡ true → suits rex w r ≡ true
+    → reg_of w rex (o % 8 + 8 * bit_b rex) ≡ r
+opcode_reg w rex r base o z eo eb h s = (let n : o % 8 + 8 * bit_b rex ≡ code_of r = omega arith in ap (reg_of w rex) n ∙ reg_suits rex w r h s)
+
+-- what is known of the fields, for each rule
+pub record RmGiven (rm : Option RmRule) (digit : Option ℕ) (span base : ℕ) (v w : Width) (rex : Option ℕ) (next : ℕ) (p : Place) (r : Reg) (o c : ℕ) : Type 0 where
+  pub next_low : next < 2 ^ 64
+  pub digit_low : digit_small digit ≡ true
+  pub rule_low : rule_small rm digit ≡ true
+  pub aligned : (span == 8) ≡ true → base % 8 ≡ 0
+  pub place : has_place rm v p ≡ true
+  pub reg : (if in_reg_field rm digit || in_opcode rm span then is_register w r else is_first r) ≡ true
+  pub b : bit_b rex ≡ (if in_opcode rm span then code_of r / 8 else place_b p)
+  pub x : bit_x rex ≡ x_needed p
+  pub r_bit : bit_r rex ≡ (if in_reg_field rm digit then code_of r / 8 else 0)
+  pub reg_suits : suits rex w r ≡ true
+  pub place_suits : (q : Reg) → p ≡ places.Reg q → suits rex v q ≡ true
+  pub near : place_reaches next p ≡ true
+  pub opcode : o ≡ base + (if in_opcode rm span then code_of r % 8 else c)
+
+not_reg : (p : Place) → names_memory p ≡ true → is_reg_place p ≡ false
+not_reg (places.Reg r) h = absurd (cc)
+not_reg (places.Mem m) h = refl
+not_reg (places.At a) h = refl
+
+is_reg : (v : Width) (p : Place) → names_register v p ≡ true → is_reg_place p ≡ true
+is_reg v (places.Reg r) h = refl
+is_reg v (places.Mem m) h = absurd (cc)
+is_reg v (places.At a) h = absurd (cc)
+
+or_one : (a b : Bool) → a ≡ true → (a || b) ≡ true
+or_one a b e = grind arith
+
+or_other : (a b : Bool) → b ≡ true → (a || b) ≡ true
+or_other a b e = grind arith
+
+-- a rule that takes an operand
+read_rule : (rule : RmRule) (digit : Option ℕ) (v : Width) (rex : Option ℕ) (next : ℕ) (p : Place) (r : Reg) → next < 2 ^ 64 → digit_small digit ≡ true → (names_register v p || names_memory p) ≡ true
+    → bit_b rex ≡ place_b p → bit_x rex ≡ x_needed p → ((q : Reg) → p ≡ places.Reg q → suits rex v q ≡ true) → place_reaches next p ≡ true
+    → PlaceRead v rex next (reg_bits digit (code_of r)) p (place_bytes (reg_bits digit (code_of r)) next p)
+read_rule rule digit v rex next p r ln ld h eb ex hs hr = read_place v rex next (reg_bits digit (code_of r)) p (digit_low digit (code_of r) ld) ln h eb ex hs hr
+
+-- a fixed byte that names a register stands alone
+fixed_parts : (k : ℕ) (digit : Option ℕ) → rule_small (Some (rules.Fixed k)) digit ≡ true → (rm_fits (Some (rules.Fixed k)) digit (k ∷ []) ≡ true) × (are_bytes (k ∷ []) ≡ true)
+fixed_parts k None h = (let three : (k / 64 == 3) ≡ true = grind arith in (and_both _ _ (and_both _ _ (same k) refl) (ap (λ n. 1 == n) (if_true (k / 64 == 3) 1 _ three)), and_both _ _ (grind arith) refl))
+  where
+    same : (k : ℕ) → (k == k) ≡ true
+    same k = grind (arith, nat_tests)
+fixed_parts k (Some d) h = absurd (false_and (nat_lt k 256 && k / 64 == 3) h)
+  where
+    false_and : (a : Bool) → (a && false) ≡ true → ⊥
+    false_and a h = grind arith
+
+pub rm_read : (rm : Option RmRule) (digit : Option ℕ) (span base : ℕ) (v w : Width) (rex : Option ℕ) (next : ℕ) (p : Place) (r : Reg) (o c : ℕ) → RmGiven rm digit span base v w rex next p r o c → RmRead rm digit span v w rex next p r o
+rm_read None digit span base v w rex next p r o c g = record {
+  fits = refl;
+  place = first_place_is p g.place;
+  bytes = refl;
+  reg = λ ps is. elim (cases_Bool (span == 8)) [
+    | inl y ↦
+        (let h : is_register w r ≡ true = sym (if_true (span == 8) (is_register w r) (is_first r) y) ∙ g.reg in
+        let eb : bit_b rex ≡ code_of r / 8 = g.b ∙ if_true (span == 8) _ _ y in
+        let eo : o ≡ base + code_of r % 8 = g.opcode ∙ ap (λ k. base + k) (if_true (span == 8) _ _ y) in
+        ap (reg_of w rex) (if_true (span == 8) (o % 8 + 8 * bit_b rex) 0 y) ∙ opcode_reg w rex r base o (g.aligned y) eo eb h g.reg_suits)
+    | inr n ↦ ap (reg_of w rex) (if_false (span == 8) (o % 8 + 8 * bit_b rex) 0 n) ∙ no_register w rex r (sym (if_false (span == 8) (is_register w r) (is_first r) n) ∙ g.reg)
+  ];
+}
+rm_read (Some (rules.Fixed k)) digit span base v w rex next p r o c g = record {
+  fits = (fixed_parts k digit g.rule_low).0;
+  place = first_place_is p g.place;
+  bytes = (fixed_parts k digit g.rule_low).1;
+  reg = λ ps is. no_register w rex r g.reg;
+}
+rm_read (Some rules.Any) None span base v w rex next p r o c g =
+    let q = read_rule rules.Any None v rex next p r g.next_low g.digit_low (g.place) g.b g.x g.place_suits g.near in
+    record {
+      fits = fits_by rules.Any None v rex next (reg_bits None (code_of r)) p _ q (digit_met None (code_of r)) (λ m e. refl);
+      place = place_by v rex next (reg_bits None (code_of r)) p _ q;
+      bytes = bytes_by v rex next (reg_bits None (code_of r)) p _ q;
+      reg = λ ps is. field_reg w rex r (reg_field (place_bytes (reg_bits None (code_of r)) next p)) (field_by v rex next (reg_bits None (code_of r)) p _ q) g.r_bit g.reg g.reg_suits;
+    }
+rm_read (Some rules.Any) (Some d) span base v w rex next p r o c g =
+    let q = read_rule rules.Any (Some d) v rex next p r g.next_low g.digit_low (g.place) g.b g.x g.place_suits g.near in
+    record {
+      fits = fits_by rules.Any (Some d) v rex next (reg_bits (Some d) (code_of r)) p _ q (digit_met (Some d) (code_of r)) (λ m e. refl);
+      place = place_by v rex next (reg_bits (Some d) (code_of r)) p _ q;
+      bytes = bytes_by v rex next (reg_bits (Some d) (code_of r)) p _ q;
+      reg = λ ps is. no_register w rex r g.reg;
+    }
+rm_read (Some rules.MemoryOnly) None span base v w rex next p r o c g =
+    let q = read_rule rules.MemoryOnly None v rex next p r g.next_low g.digit_low (or_other _ _ g.place) g.b g.x g.place_suits g.near in
+    record {
+      fits = fits_by rules.MemoryOnly None v rex next (reg_bits None (code_of r)) p _ q (digit_met None (code_of r)) (λ m e. ap not (e ∙ not_reg p g.place));
+      place = place_by v rex next (reg_bits None (code_of r)) p _ q;
+      bytes = bytes_by v rex next (reg_bits None (code_of r)) p _ q;
+      reg = λ ps is. field_reg w rex r (reg_field (place_bytes (reg_bits None (code_of r)) next p)) (field_by v rex next (reg_bits None (code_of r)) p _ q) g.r_bit g.reg g.reg_suits;
+    }
+rm_read (Some rules.MemoryOnly) (Some d) span base v w rex next p r o c g =
+    let q = read_rule rules.MemoryOnly (Some d) v rex next p r g.next_low g.digit_low (or_other _ _ g.place) g.b g.x g.place_suits g.near in
+    record {
+      fits = fits_by rules.MemoryOnly (Some d) v rex next (reg_bits (Some d) (code_of r)) p _ q (digit_met (Some d) (code_of r)) (λ m e. ap not (e ∙ not_reg p g.place));
+      place = place_by v rex next (reg_bits (Some d) (code_of r)) p _ q;
+      bytes = bytes_by v rex next (reg_bits (Some d) (code_of r)) p _ q;
+      reg = λ ps is. no_register w rex r g.reg;
+    }
+rm_read (Some rules.RegisterOnly) None span base v w rex next p r o c g =
+    let q = read_rule rules.RegisterOnly None v rex next p r g.next_low g.digit_low (or_one _ _ g.place) g.b g.x g.place_suits g.near in
+    record {
+      fits = fits_by rules.RegisterOnly None v rex next (reg_bits None (code_of r)) p _ q (digit_met None (code_of r)) (λ m e. e ∙ is_reg v p g.place);
+      place = place_by v rex next (reg_bits None (code_of r)) p _ q;
+      bytes = bytes_by v rex next (reg_bits None (code_of r)) p _ q;
+      reg = λ ps is. field_reg w rex r (reg_field (place_bytes (reg_bits None (code_of r)) next p)) (field_by v rex next (reg_bits None (code_of r)) p _ q) g.r_bit g.reg g.reg_suits;
+    }
+rm_read (Some rules.RegisterOnly) (Some d) span base v w rex next p r o c g =
+    let q = read_rule rules.RegisterOnly (Some d) v rex next p r g.next_low g.digit_low (or_one _ _ g.place) g.b g.x g.place_suits g.near in
+    record {
+      fits = fits_by rules.RegisterOnly (Some d) v rex next (reg_bits (Some d) (code_of r)) p _ q (digit_met (Some d) (code_of r)) (λ m e. e ∙ is_reg v p g.place);
+      place = place_by v rex next (reg_bits (Some d) (code_of r)) p _ q;
+      bytes = bytes_by v rex next (reg_bits (Some d) (code_of r)) p _ q;
+      reg = λ ps is. no_register w rex r g.reg;
+    }

@@ -1,4 +1,4 @@
-use Rattle.std.specs.Prelude.{ℕ, ◌≡◌, ◌+◌, ◌%◌, ◌==◌, Bool, true, false, nat_lt, nat_le, ◌&&◌, ◌||◌, not, Option, Some, None, is_none, is_some}
+use Rattle.std.specs.Prelude.{ℕ, ◌≡◌, ◌+◌, ◌/◌, ◌%◌, ◌==◌, Bool, true, false, nat_lt, nat_le, ◌&&◌, ◌||◌, not, Option, Some, None, is_none, is_some}
 use Rattle.rz_isa.specs.declared.rows.Row.{Row}
 use Rattle.rz_isa.specs.declared.rows.OpMap.{OpMap}
 use Rattle.rz_isa.specs.declared.rows.RmRule.{RmRule}
@@ -127,13 +127,14 @@ abbrev pub digit_small : Option ℕ → Bool
 digit_small None = true
 digit_small (Some d) = nat_lt d 8
 
-abbrev pub rule_small : Option RmRule → Bool
-rule_small (Some (rules.Fixed b)) = nat_lt b 256
-rule_small _ = true
+-- a whole ModRM byte names a register, and has no digit beside it
+abbrev pub rule_small : Option RmRule → Option ℕ → Bool
+rule_small (Some (rules.Fixed b)) digit = nat_lt b 256 && b / 64 == 3 && is_none digit
+rule_small _ digit = true
 
 abbrev pub is_regular : Row → Bool
 is_regular r =
-    operands_apart r.op && imm_suits r.op r.imm && width_suits r.op r.size && not (stands_alone r.imm && is_some r.rm) && is_block r && digit_small r.digit && rule_small r.rm
+    operands_apart r.op && imm_suits r.op r.imm && width_suits r.op r.size && not (stands_alone r.imm && is_some r.rm) && is_block r && digit_small r.digit && rule_small r.rm r.digit
     && not (is_some (b_demand r.op r.map 0x90) && is_some r.rm) && (not (is_exchange r.op) || r.span == 8)
 
 -- ---- fields for an instruction
