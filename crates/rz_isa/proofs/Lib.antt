@@ -11,3 +11,4 @@ pub mod Complete
 pub mod Read
 pub mod Sound
 pub mod Parts
+pub mod Whole

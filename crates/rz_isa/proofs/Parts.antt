@@ -81,7 +81,7 @@ times_f3 true false = refl
 times_f3 false true = refl
 times_f3 false false = refl
 
-rep_again : (r : F3Rule) (n : ℕ) → has_rep r n ≡ true → rep_of r (if stands_f3 r n then 1 else 0) ≡ n
+pub rep_again : (r : F3Rule) (n : ℕ) → has_rep r n ≡ true → rep_of r (if stands_f3 r n then 1 else 0) ≡ n
 rep_again f3s.Repeats n h = repeats n h
   where
     repeats : (n : ℕ) → (n == 0 || n == 0xf3) ≡ true → (if (if is_rep n then 1 else 0) == 0 then 0 else 0xf3) ≡ n
@@ -210,7 +210,7 @@ bits row f h =
 
 -- ---- the width is read again
 
-w_is : (c : Size) (w : Width) → has_width c w ≡ true → is_met (w_demand c) (w_needed c w) ≡ true
+pub w_is : (c : Size) (w : Width) → has_width c w ≡ true → is_met (w_demand c) (w_needed c w) ≡ true
 w_is sizes.WQ w h = refl
 w_is sizes.D w h = refl
 w_is sizes.B w h = refl
