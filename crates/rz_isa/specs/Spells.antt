@@ -1,6 +1,7 @@
-use Rattle.std.specs.Prelude.{ℕ, ◌≡◌, ◌≢◌, ◌+◌, ◌%◌, ◌^◌, List, [], ◌++◌, length, Option, Some, slice_get}
+use Rattle.std.specs.Prelude.{ℕ, ◌≡◌, ◌≢◌, ◌+◌, ◌%◌, ◌^◌, ◌<◌, List, [], ◌++◌, length, Option, Some, slice_get}
 use Rattle.rz_isa.specs.declared.rows.Row.{Row}
 use Rattle.rz_isa.specs.declared.instruction.Insn.{Insn}
+use Rattle.rz_isa.specs.declared.spelled.Fields.{Fields}
 use Rattle.rz_isa.specs.Spelling.{Parts, SpelledBy}
 use Rattle.rz_isa.specs.Fields.{fields, build_op}
 
@@ -30,3 +31,22 @@ pub record Begins (rows : List Row) (s : List ℕ) : Type 0 where
   pub more : List ℕ
   pub goes_on : more ≢ []
   pub spelled : SpelledBy row parts (s ++ more)
+
+-- ---- the fields that a row can have
+
+-- the row can have the fields: some spelling by it has them at some address
+pub record CanHave (row : Row) (f : Fields) : Type 0 where
+  pub next : ℕ
+  pub next_low : next < 2 ^ 64
+  pub bytes : List ℕ
+  pub parts : Parts
+  pub spelled : SpelledBy row parts bytes
+  pub same : fields row parts next ≡ f
+
+-- the row can have the fields, and they build the instruction
+pub record Builds (row : Row) (x : Insn) (f : Fields) : Type 0 where
+  pub had : CanHave row f
+  pub built : build_op row.op f ≡ x
+
+abbrev pub NoneBuilds : Row → Insn → Type 0
+NoneBuilds row x = (f : Fields) → ¬ Builds row x f
