@@ -18,7 +18,7 @@ use Rattle.rz_isa.specs.Spelling.{b_demand}
 use Rattle.rz_isa.specs.Fields.{build_op}
 use Rattle.rz_isa.specs.Having.{has_imm, in_opcode, can_have}
 use Rattle.rz_isa.specs.Finding.{least, found_in, if_can, found}
-use Rattle.rz_isa.specs.Regular.{operands_apart, imm_suits, width_suits, stands_alone, is_exchange, is_block, digit_small, rule_small, is_regular, Builds, NoneBuilds}
+use Rattle.rz_isa.specs.Regular.{operands_apart, imm_suits, width_suits, stands_alone, is_exchange, is_block, digit_small, rule_small, is_regular}
 use Rattle.rz_isa.proofs.Built.{imm_small, through, built}
 use Rattle.rz_isa.proofs.Again.{Had, had_of, can_of, again}
 use Rattle.rz_isa.proofs.Lesser.{below_had}
@@ -82,7 +82,11 @@ exchange_place _ m r span d x e = absurd (cc)
 
 -- ---- what is found builds the instruction, and what builds it is found
 
-pub found_builds : (row : Row) (x : Insn) (g : Fields) → is_regular row ≡ true → found row x ≡ Some g → Builds row x g
+pub record Tested (row : Row) (x : Insn) (g : Fields) : Type 0 where
+  pub had : can_have row g ≡ true
+  pub built : build_op row.op g ≡ x
+
+pub found_builds : (row : Row) (x : Insn) (g : Fields) → is_regular row ≡ true → found row x ≡ Some g → Tested row x g
 found_builds row x g reg e =
     let r = regular_of row reg in
     option_and_then_some (if_can row) (found_in row.op x (least row)) g e (λ m em eg.
@@ -107,11 +111,3 @@ builds_found row f reg had =
     }) in
     let can = can_of row a.g (below_had row a.g f h a.below a.b) in
     (a.g, ap (option_and_then (if_can row)) a.found ∙ ap (λ k. if k then Some a.g else None) can)
-
-none_some : (f : Fields) → None ≡ Some f → ⊥
-none_some f e = cc
-
-pub none_builds : (row : Row) (x : Insn) → is_regular row ≡ true → found row x ≡ None → NoneBuilds row x
-none_builds row x reg none f b =
-    let g = builds_found row f reg b.had in
-    none_some g.0 (sym none ∙ (ap (found row) (sym b.built) ∙ g.1))

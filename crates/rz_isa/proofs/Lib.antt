@@ -12,3 +12,4 @@ pub mod Read
 pub mod Sound
 pub mod Parts
 pub mod Whole
+pub mod Choice

@@ -261,7 +261,7 @@ tail_short None digit k w [] alone fit = omega (arith, imm_full k w)
 tail_short None digit k w (m ∷ rest) alone fit = absurd (cc)
 tail_short (Some rule) digit k w bs alone fit = omega (arith, rm_short rule digit bs fit, imm_beside k w (beside (stands_alone k) alone))
 
-length_of : (row : Row) (p : Parts) → length (bytes_of row p) ≡ length p.prefixes + (length (rex_bytes p.rex) + (length (escape row.map) + (1 + (length p.rm + length p.imm))))
+pub length_of : (row : Row) (p : Parts) → length (bytes_of row p) ≡ length p.prefixes + (length (rex_bytes p.rex) + (length (escape row.map) + (1 + (length p.rm + length p.imm))))
 length_of row p = grind (arith, length-append, common_steps)
 
 short_test : (n : ℕ) → n ≤ 15 → nat_le n 15 ≡ true

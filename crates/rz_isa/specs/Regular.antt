@@ -1,4 +1,4 @@
-use Rattle.std.specs.Prelude.{ℕ, ◌≡◌, ◌+◌, ◌/◌, ◌%◌, ◌==◌, Bool, true, false, nat_lt, nat_le, ◌&&◌, ◌||◌, not, Option, Some, None, is_none, is_some}
+use Rattle.std.specs.Prelude.{ℕ, ◌+◌, ◌/◌, ◌%◌, ◌==◌, Bool, true, false, nat_lt, nat_le, ◌&&◌, ◌||◌, not, Option, Some, None, is_none, is_some}
 use Rattle.rz_isa.specs.declared.rows.Row.{Row}
 use Rattle.rz_isa.specs.declared.rows.OpMap.{OpMap}
 use Rattle.rz_isa.specs.declared.rows.RmRule.{RmRule}
@@ -11,11 +11,7 @@ use Rattle.rz_isa.specs.declared.rows.Letter.{Letter}
 use Rattle.rz_isa.specs.declared.rows.Letter.TheVariants as letters
 use Rattle.rz_isa.specs.declared.rows.Op.{Op}
 use Rattle.rz_isa.specs.declared.rows.Op.TheVariants as ops
-use Rattle.rz_isa.specs.declared.instruction.Insn.{Insn}
-use Rattle.rz_isa.specs.declared.spelled.Fields.{Fields}
 use Rattle.rz_isa.specs.Spelling.{b_demand}
-use Rattle.rz_isa.specs.Fields.{build_op}
-use Rattle.rz_isa.specs.Having.{can_have}
 
 -- What else is asked of a row, so that its fields can be told from the instruction and the
 -- other way round: its operands come from different fields, its opcodes stand in one block,
@@ -136,13 +132,3 @@ abbrev pub is_regular : Row → Bool
 is_regular r =
     operands_apart r.op && imm_suits r.op r.imm && width_suits r.op r.size && not (stands_alone r.imm && is_some r.rm) && is_block r && digit_small r.digit && rule_small r.rm r.digit
     && not (is_some (b_demand r.op r.map 0x90) && is_some r.rm) && (not (is_exchange r.op) || r.span == 8)
-
--- ---- fields for an instruction
-
--- the row can have the fields, and they build the instruction
-pub record Builds (row : Row) (x : Insn) (f : Fields) : Type 0 where
-  pub had : can_have row f ≡ true
-  pub built : build_op row.op f ≡ x
-
-abbrev pub NoneBuilds : Row → Insn → Type 0
-NoneBuilds row x = (f : Fields) → ¬ Builds row x f

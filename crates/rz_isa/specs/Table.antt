@@ -1,4 +1,4 @@
-use Rattle.std.specs.Prelude.{ℕ, zero, suc, ◌≡◌, ◌+◌, ◌-◌, ◌≤◌, ◌==◌, max, min, nat_lt, nat_le, Bool, true, false, not, ◌&&◌, ◌||◌, List, [], ◌∷◌, ◌++◌, length, Option, Some, None, slice_get}
+use Rattle.std.specs.Prelude.{ℕ, zero, suc, ◌≡◌, ◌+◌, ◌-◌, ◌≤◌, ◌<◌, ◌==◌, max, min, nat_lt, nat_le, Bool, true, false, not, ◌&&◌, ◌||◌, List, [], ◌∷◌, ◌++◌, length, Option, Some, None, slice_get}
 use Rattle.std.specs.List.{list_all}
 use Rattle.rz_isa.specs.declared.rows.Row.{Row}
 use Rattle.rz_isa.specs.declared.rows.OpMap.{OpMap}
@@ -7,7 +7,9 @@ use Rattle.rz_isa.specs.declared.rows.RmRule.{RmRule}
 use Rattle.rz_isa.specs.declared.rows.RmRule.TheVariants as rules
 use Rattle.rz_isa.specs.declared.instruction.Insn.{Insn}
 use Rattle.rz_isa.specs.Spelling.{Parts, SpelledBy, is_prefix, is_rex, clash, f3_demand, w_demand, b_demand}
-use Rattle.rz_isa.specs.Spells.{Spells}
+use Rattle.rz_isa.specs.declared.rows.Form.{Form}
+use Rattle.rz_isa.specs.Spells.{RowSpells, Spells}
+use Rattle.rz_isa.specs.Canonical.{canonical}
 
 -- ---- what is asked of one row
 
@@ -66,3 +68,27 @@ OneRow rows = (n m : ℕ) (r q : Row) (s more : List ℕ) (a b : Parts) → slic
 -- every spelling has 1 to 15 bytes
 abbrev pub Lengths : List Row → Type 0
 Lengths rows = (s : List ℕ) (at : ℕ) (x : Insn) → Spells rows s at x → (1 ≤ length s) × (length s ≤ 15)
+
+-- the row spells the instruction at some address
+pub record SpelledSomewhere (row : Row) (x : Insn) : Type 0 where
+  pub bytes : List ℕ
+  pub at : ℕ
+  pub by_row : RowSpells row bytes at x
+
+-- the first row of the form that spells the instruction at some address
+pub record IsCanonicalRow (rows : List Row) (form : Form) (x : Insn) (n : ℕ) : Type 0 where
+  pub row : Row
+  pub in_table : slice_get rows n ≡ Some row
+  pub same_form : row.form ≡ form
+  pub somewhere : SpelledSomewhere row x
+  pub first : (m : ℕ) (q : Row) → m < n → slice_get rows m ≡ Some q → q.form ≡ form → ¬ SpelledSomewhere q x
+
+-- each instruction that some row spells has exactly one canonical row for each form that it has
+abbrev pub OneCanonicalRow : List Row → Type 0
+OneCanonicalRow rows = (x : Insn) (form : Form) (m : ℕ) (q : Row) → slice_get rows m ≡ Some q → q.form ≡ form → SpelledSomewhere q x
+    → (n : ℕ) × (IsCanonicalRow rows form x n × ((k : ℕ) → IsCanonicalRow rows form x k → k ≡ n))
+
+-- a canonical spelling is one by the canonical row
+abbrev pub CanonicalSpells : List Row → Type 0
+CanonicalSpells rows = (x : Insn) (at : ℕ) (form : Form) (s : List ℕ) → canonical rows x at form ≡ Some s
+    → (n : ℕ) × (IsCanonicalRow rows form x n × ((row : Row) → slice_get rows n ≡ Some row → RowSpells row s at x))

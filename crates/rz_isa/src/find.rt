@@ -1,5 +1,6 @@
 ghost use Rattle.std.specs.Prelude.{◌≡◌, IsTrue, IfSome, IfNone};
-ghost use Rattle.rz_isa.specs.Regular.{is_regular, Builds, NoneBuilds};
+ghost use Rattle.rz_isa.specs.Regular.{is_regular};
+ghost use Rattle.rz_isa.specs.Spells.{Builds, NoneBuilds};
 ghost use Rattle.std.specs.Option.{option_and_then};
 ghost use Rattle.rz_isa.specs.Finding.{with_place as with_place_at, with_operand as with_operand_at, with_reg as with_reg_at, with_number as with_number_at, with_count as with_count_at, with_index as with_index_at, found_in as found_from, rep_byte as rep_byte_of, least_width as least_width_of, least_place as least_place_of, least as least_of, found};
 

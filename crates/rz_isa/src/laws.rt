@@ -1,4 +1,4 @@
-ghost use Rattle.rz_isa.specs.Table.{OneRow, Lengths};
+ghost use Rattle.rz_isa.specs.Table.{OneRow, Lengths, OneCanonicalRow};
 
 use crate::table::InsnTable;
 
@@ -12,5 +12,11 @@ pub fn one_row<T: InsnTable>()
 /// Every spelling has 1 to 15 bytes.
 pub fn lengths<T: InsnTable>()
     ensures { Lengths T.rows }
+{
+}
+
+/// Each instruction that some row spells has exactly one canonical row for each form that it has.
+pub fn one_canonical_row<T: InsnTable>()
+    ensures { OneCanonicalRow T.rows }
 {
 }
