@@ -245,3 +245,18 @@ chosen_spells x at c s regular is_found e =
       spelled = subst (λ k. SpelledBy c.row (parts_for c.row c.fields next) k) t.1 spelled;
       names = sym b.built ∙ (ap (build_op c.row.op) (sym (parts_read c.row c.fields next regular b.had low t.0).same) ∙ ap (λ k. build_op c.row.op (fields c.row (parts_for c.row c.fields next) k)) same);
     }
+
+none_spelled : (at : ℕ) (s : List ℕ) → spelled_at at None ≡ Some s → ⊥
+none_spelled at s e = none_list s e
+
+by_chosen : (rows : List Row) (form : Form) (x : Insn) (at : ℕ) (s : List ℕ) → list_all is_regular rows ≡ true → (o : Option Chosen) → chosen_by (λ r. found r x) rows form ≡ o → spelled_at at o ≡ Some s
+    → (n : ℕ) × (IsCanonicalRow rows form x n × ((row : Row) → slice_get rows n ≡ Some row → RowSpells row s at x))
+by_chosen rows form x at s regular None eo e = absurd (none_spelled at s e)
+by_chosen rows form x at s regular (Some c) eo e =
+    let f = chosen_first (λ r. found r x) rows form c eo in
+    let first : First (serves form x) rows = record { n = f.n; row = c.row; in_table = f.in_table; holds = and_both (same_form c.row.form form) (is_some (found c.row x)) f.same (ap is_some f.is_found); none_before = f.none_before } in
+    let r = list_all_get is_regular rows f.n c.row regular f.in_table in
+    (f.n, (canonical_of_first rows form x regular first, λ row at_n. subst (λ k. RowSpells k s at x) (some_same c.row row (sym f.in_table ∙ at_n)) (chosen_spells x at c s r f.is_found e)))
+
+pub canonical_spells : (rows : List Row) → list_all is_regular rows ≡ true → CanonicalSpells rows
+canonical_spells rows regular x at form s e = by_chosen rows form x at s regular (chosen_by (λ r. found r x) rows form) refl e

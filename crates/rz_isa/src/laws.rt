@@ -1,4 +1,4 @@
-ghost use Rattle.rz_isa.specs.Table.{OneRow, Lengths, OneCanonicalRow};
+ghost use Rattle.rz_isa.specs.Table.{OneRow, Lengths, OneCanonicalRow, CanonicalSpells};
 
 use crate::table::InsnTable;
 
@@ -18,5 +18,11 @@ pub fn lengths<T: InsnTable>()
 /// Each instruction that some row spells has exactly one canonical row for each form that it has.
 pub fn one_canonical_row<T: InsnTable>()
     ensures { OneCanonicalRow T.rows }
+{
+}
+
+/// A canonical spelling is a spelling by the canonical row, and names the instruction.
+pub fn canonical_spells<T: InsnTable>()
+    ensures { CanonicalSpells T.rows }
 {
 }
