@@ -13,3 +13,4 @@ pub mod Sound
 pub mod Parts
 pub mod Whole
 pub mod Choice
+pub mod Served

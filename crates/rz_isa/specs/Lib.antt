@@ -9,3 +9,4 @@ pub mod Having
 pub mod Finding
 pub mod Canonical
 pub mod Regular
+pub mod Emitted
