@@ -1,5 +1,6 @@
 ghost use Rattle.std.specs.Prelude.{◌≡◌, ◌<◌, length, slice_get, Some, refl};
-ghost use Rattle.rz_isa.specs.Table.{OneRow, Lengths};
+ghost use Rattle.rz_isa.specs.Emitted.{Emits};
+ghost use Rattle.rz_isa.specs.Table.{OneRow, Lengths, OneCanonicalRow, CanonicalSpells};
 ghost use Rattle.rz_table.specs.declared.profile_rows.TheConstants.{PROFILE};
 
 use crate::profile_rows::PROFILE;
@@ -20,11 +21,17 @@ pub fn pick(rows: &[Row], n: usize) -> Row
 impl InsnTable for Profile1 {
     ghost rows = { PROFILE };
 
-    /// How many rows there are.
+    /// How many rows there are. The clauses are the laws of the table: no bytes are spelled by
+    /// two rows, every spelling has 1 to 15 bytes, an instruction has one canonical row for each
+    /// form that it has, a canonical spelling names its instruction, and the instructions that a
+    /// written file is made of have canonical spellings.
     fn count() -> usize
         ensures length { result ≡ length PROFILE }
         ensures one_row { OneRow PROFILE }
         ensures lengths { Lengths PROFILE }
+        ensures one_canonical_row { OneCanonicalRow PROFILE }
+        ensures canonical_spells { CanonicalSpells PROFILE }
+        ensures emits { Emits PROFILE }
     {
         PROFILE.len()
     }
