@@ -223,7 +223,7 @@ all_eight a b c d e f g h ea eb ec ed ee ef eg eh = grind arith
 pub had_of : (row : Row) (f : Fields) → can_have row f ≡ true → Had row f
 had_of row f h =
     let e = eight (has_width row.size f.w) (has_reg row f.w f.reg) (has_place row.rm (rm_width row.op f.w) f.rm) (has_cond row.span f.cond) (has_imm row.imm f.w f.imm) (has_rep row.f3 f.rep)
-      (not (bars_rex f && needs_rex row f)) (is_met (b_demand row.op row.map (opcode_of row f)) (b_needed row f)) h in
+    (not (bars_rex f && needs_rex row f)) (is_met (b_demand row.op row.map (opcode_of row f)) (b_needed row f)) h in
     record { w = e.one; reg = e.two; rm = e.three; cond = e.four; imm = e.five; rep = e.six; rex = e.seven; b = e.eight }
 
 pub can_of : (row : Row) (f : Fields) → Had row f → can_have row f ≡ true

@@ -134,9 +134,9 @@ canonical_of_first rows form x regular f =
       same_form = form_is f.row.form form t.0;
       somewhere = some_found f.row x (found f.row x) (list_all_get is_regular rows f.n f.row regular f.in_table) refl t.1;
       first = λ m q lt at same somewhere.
-        never (serves form x q)
-        (and_both (same_form q.form form) (is_some (found q x)) (form_same q.form form same) (somewhere_found q x (list_all_get is_regular rows m q regular at) somewhere))
-        (f.none_before m q lt at);
+          never (serves form x q)
+          (and_both (same_form q.form form) (is_some (found q x)) (form_same q.form form same) (somewhere_found q x (list_all_get is_regular rows m q regular at) somewhere))
+          (f.none_before m q lt at);
     }
 
 pub one_only : (rows : List Row) (form : Form) (x : Insn) (n k : ℕ) → IsCanonicalRow rows form x n → IsCanonicalRow rows form x k → k ≡ n

@@ -163,9 +163,9 @@ behind_short (b ∷ bs) h = omega arith
 
 sib_memory : (mode sib : ℕ) (rex : Option ℕ) (disp : List ℕ) → sib < 256 → are_bytes disp ≡ true → length disp ≤ 4 → is_memory (sib_mem mode sib rex disp) ≡ true
 sib_memory mode sib rex disp lt h short = four_tests _ _ _
-  (base_number mode (sib % 8) (bit_b rex) (omega arith) (b_bit rex))
-  (index_number (sib / 8 % 8 + 8 * bit_x rex) (sib / 64) (with_bit (sib / 8 % 8) (bit_x rex) (omega arith) (x_bit rex)) (omega arith))
-  (signed_is_disp disp h short)
+    (base_number mode (sib % 8) (bit_b rex) (omega arith) (b_bit rex))
+    (index_number (sib / 8 % 8 + 8 * bit_x rex) (sib / 64) (with_bit (sib / 8 % 8) (bit_x rex) (omega arith) (x_bit rex)) (omega arith))
+    (signed_is_disp disp h short)
 
 base_memory : (low : ℕ) (rex : Option ℕ) (disp : List ℕ) → low < 8 → are_bytes disp ≡ true → length disp ≤ 4 → is_memory (base_mem low rex disp) ≡ true
 base_memory low rex disp lt h short = four_tests _ _ _ (grind (arith, nat_tests, b_bit rex)) refl (signed_is_disp disp h short)
@@ -287,7 +287,7 @@ place_not_high v r next [] = refl
 place_not_high v r next (m ∷ rest) =
     if_both (λ p. high_place p ≡ false) (m / 64 == 3) (places.Reg (reg_of v (Some r) (m % 8 + 8 * bit_b (Some r)))) _ (λ _. not_high v r (m % 8 + 8 * bit_b (Some r)))
     (λ _. if_both (λ p. high_place p ≡ false) (m % 8 == 4) (places.Mem (sib_mem (m / 64) (second (m ∷ rest)) (Some r) (behind_one rest))) _ (λ _. refl)
-      (λ _. if_both (λ p. high_place p ≡ false) (m / 64 == 0 && m % 8 == 5) (places.At (displaced_by next rest)) (places.Mem (base_mem (m % 8) (Some r) rest)) (λ _. refl) (λ _. refl)))
+    (λ _. if_both (λ p. high_place p ≡ false) (m / 64 == 0 && m % 8 == 5) (places.At (displaced_by next rest)) (places.Mem (base_mem (m % 8) (Some r) rest)) (λ _. refl) (λ _. refl)))
 
 rm_not_high : (rm : Option RmRule) (v : Width) (r next : ℕ) (bs : List ℕ) → high_place (rm_place rm v (Some r) next bs) ≡ false
 rm_not_high None v r next bs = place_not_high v r next bs
@@ -313,7 +313,7 @@ place_not_low v next [] = first_not_low v
 place_not_low v next (m ∷ rest) =
     if_both (λ p. low_byte_place v p ≡ false) (m / 64 == 3) (places.Reg (reg_of v None (m % 8 + 8 * bit_b None))) _ (λ _. not_low v (m % 8 + 8 * bit_b None))
     (λ _. if_both (λ p. low_byte_place v p ≡ false) (m % 8 == 4) (places.Mem (sib_mem (m / 64) (second (m ∷ rest)) None (behind_one rest))) _ (λ _. refl)
-      (λ _. if_both (λ p. low_byte_place v p ≡ false) (m / 64 == 0 && m % 8 == 5) (places.At (displaced_by next rest)) (places.Mem (base_mem (m % 8) None rest)) (λ _. refl) (λ _. refl)))
+    (λ _. if_both (λ p. low_byte_place v p ≡ false) (m / 64 == 0 && m % 8 == 5) (places.At (displaced_by next rest)) (places.Mem (base_mem (m % 8) None rest)) (λ _. refl) (λ _. refl)))
 
 rm_not_low : (rm : Option RmRule) (v : Width) (next : ℕ) (bs : List ℕ) → low_byte_place v (rm_place rm v None next bs) ≡ false
 rm_not_low None v next bs = place_not_low v next bs
@@ -327,7 +327,7 @@ rm_not_low (Some (rules.Fixed b)) v next bs = first_not_low v
 w_of_size : (c : Size) (b n : ℕ) → b < 2 → is_met (w_demand c) b ≡ true → w_needed c (width_of c b n) ≤ b
 w_of_size sizes.B b n lt m = omega arith
 w_of_size sizes.V b n lt m = if_both (λ w. (if is_wide w then 1 else 0) ≤ b) (b == 1) W64 (if n == 0 then W32 else W16) (λ e. grind (arith, nat_tests))
-  (λ _. if_both (λ w. (if is_wide w then 1 else 0) ≤ b) (n == 0) W32 W16 (λ _. omega arith) (λ _. omega arith))
+    (λ _. if_both (λ w. (if is_wide w then 1 else 0) ≤ b) (n == 0) W32 W16 (λ _. omega arith) (λ _. omega arith))
 w_of_size sizes.D b n lt m = omega arith
 w_of_size sizes.Y b n lt m = if_both (λ w. (if is_wide w then 1 else 0) ≤ b) (b == 1) W64 W32 (λ e. grind (arith, nat_tests)) (λ _. omega arith)
 w_of_size sizes.Q b n lt m = omega arith
@@ -339,7 +339,7 @@ place_x v rex next [] = omega arith
 place_x v rex next (m ∷ rest) =
     if_both (λ p. x_needed p ≤ bit_x rex) (m / 64 == 3) (places.Reg (reg_of v rex (m % 8 + 8 * bit_b rex))) _ (λ _. omega arith)
     (λ _. if_both (λ p. x_needed p ≤ bit_x rex) (m % 8 == 4) (places.Mem (sib_mem (m / 64) (second (m ∷ rest)) rex (behind_one rest))) _ (λ _. indexed (second (m ∷ rest) / 8 % 8) (bit_x rex) (omega arith))
-      (λ _. if_both (λ p. x_needed p ≤ bit_x rex) (m / 64 == 0 && m % 8 == 5) (places.At (displaced_by next rest)) (places.Mem (base_mem (m % 8) rex rest)) (λ _. omega arith) (λ _. omega arith)))
+    (λ _. if_both (λ p. x_needed p ≤ bit_x rex) (m / 64 == 0 && m % 8 == 5) (places.At (displaced_by next rest)) (places.Mem (base_mem (m % 8) rex rest)) (λ _. omega arith) (λ _. omega arith)))
   where
     indexed : (low b : ℕ) → low < 8 → number_in (index_of (low + 8 * b)) / 8 ≤ b
     indexed low b lt = if_both (λ o. number_in o / 8 ≤ b) (low + 8 * b == 4) None (Some (low + 8 * b)) (λ _. omega arith) (λ _. omega arith)
@@ -359,7 +359,7 @@ place_of_b v rex next [] = omega arith
 place_of_b v rex next (m ∷ rest) =
     if_both (λ p. place_b p ≤ bit_b rex) (m / 64 == 3) (places.Reg (reg_of v rex (m % 8 + 8 * bit_b rex))) _ (λ _. reg_b v rex (m % 8) (bit_b rex) (eighth_low m))
     (λ _. if_both (λ p. place_b p ≤ bit_b rex) (m % 8 == 4) (places.Mem (sib_mem (m / 64) (second (m ∷ rest)) rex (behind_one rest))) _ (λ _. based (m / 64) (second (m ∷ rest) % 8) (bit_b rex) (omega arith))
-      (λ _. if_both (λ p. place_b p ≤ bit_b rex) (m / 64 == 0 && m % 8 == 5) (places.At (displaced_by next rest)) (places.Mem (base_mem (m % 8) rex rest)) (λ _. omega arith) (λ _. omega arith)))
+    (λ _. if_both (λ p. place_b p ≤ bit_b rex) (m / 64 == 0 && m % 8 == 5) (places.At (displaced_by next rest)) (places.Mem (base_mem (m % 8) rex rest)) (λ _. omega arith) (λ _. omega arith)))
   where
     based : (mode low b : ℕ) → low < 8 → number_in (base_of mode low b) / 8 ≤ b
     based mode low b lt = if_both (λ o. number_in o / 8 ≤ b) (mode == 0 && low == 5) None (Some (low + 8 * b)) (λ _. omega arith) (λ _. omega arith)
@@ -445,8 +445,10 @@ rex_joined row p next fit = by_rex p.rex refl
   where
     left : (a b : Bool) → a ≡ false → not (a && b) ≡ true
     left a b e = grind arith
+
     right : (a b : Bool) → b ≡ false → not (a && b) ≡ true
     right a b e = grind arith
+
     by_rex : (o : Option ℕ) → p.rex ≡ o → not (bars_rex (fields row p next) && needs_rex row (fields row p next)) ≡ true
     by_rex None e = right _ _ (none_needed row p next fit e)
     by_rex (Some r) e = left _ _ (none_barred row p next r e)

@@ -162,9 +162,9 @@ no_common r s p q m n ir is fp fq same =
     (same_maps r.map s.map h.map)
     (digits_apart r.digit s.digit r.rm s.rm p.rm q.rm _ _ ir.ruled is.ruled fp.rm fq.rm h.rest)
     (shared_apart r s p.opcode fp.opcode os (ors _ _ _
-      (clash_not (f3_demand r.f3) (f3_demand s.f3) (times 0xf3 p.prefixes) (f3_met r p.prefixes fp.prefixes) fs)
-      (clash_not (w_demand r.size) (w_demand s.size) (bit_w p.rex) fp.w ws)
-      (clash_not (b_demand r.op r.map p.opcode) (b_demand s.op s.map p.opcode) (bit_b p.rex) fp.b bs)))
+    (clash_not (f3_demand r.f3) (f3_demand s.f3) (times 0xf3 p.prefixes) (f3_met r p.prefixes fp.prefixes) fs)
+    (clash_not (w_demand r.size) (w_demand s.size) (bit_w p.rex) fp.w ws)
+    (clash_not (b_demand r.op r.map p.opcode) (b_demand s.op s.map p.opcode) (bit_b p.rex) fp.b bs)))
 
 parts_same : (p q : Parts) → p.prefixes ≡ q.prefixes → p.rex ≡ q.rex → p.opcode ≡ q.opcode → p.rm ≡ q.rm → p.imm ≡ q.imm → p ≡ q
 parts_same p q a b c d e = λ i. record { prefixes = a i; rex = b i; opcode = c i; rm = d i; imm = e i }

@@ -53,11 +53,10 @@ nine a b c d e f g h i x = record { one = grind arith; two = grind arith; three 
 pub regular_of : (r : Row) → is_regular r ≡ true → IsRegular r
 regular_of r h =
     let n = nine (operands_apart r.op) (imm_suits r.op r.imm) (width_suits r.op r.size) (not (stands_alone r.imm && is_some r.rm)) (is_block r) (digit_small r.digit) (rule_small r.rm r.digit)
-      (not (is_some (b_demand r.op r.map 0x90) && is_some r.rm)) (not (is_exchange r.op) || r.span == 8) h in
+    (not (is_some (b_demand r.op r.map 0x90) && is_some r.rm)) (not (is_exchange r.op) || r.span == 8) h in
     record { operands = n.one; imm = n.two; width = n.three; alone = n.four; block = n.five; digit = n.six; rule = n.seven; demand = n.eight; exchange = n.nine }
 
 -- ---- immediates of counts, bit indexes and Ret
-
 
 pub imm_small_of : (op : Op) (k : Option ImmKind) (w : Width) (n : ℕ) → imm_suits op k ≡ true → has_imm k w n ≡ true → imm_small op n
 imm_small_of (ops.Shift o d c) None w n s h = grind (arith, nat_tests)
@@ -90,11 +89,11 @@ pub found_builds : (row : Row) (x : Insn) (g : Fields) → is_regular row ≡ tr
 found_builds row x g reg e =
     let r = regular_of row reg in
     option_and_then_some (if_can row) (found_in row.op x (least row)) g e (λ m em eg.
-      let t = through (can_have row m) m g eg in
-      let had : can_have row g ≡ true = subst (λ k. can_have row k ≡ true) t.1 t.0 in
-      let h = had_of row g had in
-      let em2 : found_in row.op x (least row) ≡ Some g = em ∙ ap Some t.1 in
-      record { had = had; built = built row.op x (least row) g r.operands (imm_small_of row.op row.imm g.w g.imm r.imm h.imm) em2 })
+    let t = through (can_have row m) m g eg in
+    let had : can_have row g ≡ true = subst (λ k. can_have row k ≡ true) t.1 t.0 in
+    let h = had_of row g had in
+    let em2 : found_in row.op x (least row) ≡ Some g = em ∙ ap Some t.1 in
+    record { had = had; built = built row.op x (least row) g r.operands (imm_small_of row.op row.imm g.w g.imm r.imm h.imm) em2 })
 
 pub builds_found : (row : Row) (f : Fields) → is_regular row ≡ true → can_have row f ≡ true → (g : Fields) × (found row (build_op row.op f) ≡ Some g)
 builds_found row f reg had =

@@ -371,9 +371,9 @@ not_and false b c d f g h = refl
 
 pub rex_had : (row : Row) (g f : Fields) → Had row f → Below row g f → not (bars_rex g && needs_rex row g) ≡ true
 rex_had row g f h b = not_and (bars_rex g) (needs_rex row g) (bars_rex f) (needs_rex row f)
-  (or_two (is_high g.reg) (high_place g.rm) (is_high f.reg) (high_place f.rm) (high_kept row g f b) (high_place_kept row g f b))
-  (or_three _ _ _ _ _ _ (positive (rex_needed row g) (rex_needed row f) (rex_less row g f b)) (low_kept row g f h b) (low_place_kept row g f h b))
-  h.rex
+    (or_two (is_high g.reg) (high_place g.rm) (is_high f.reg) (high_place f.rm) (high_kept row g f b) (high_place_kept row g f b))
+    (or_three _ _ _ _ _ _ (positive (rex_needed row g) (rex_needed row f) (rex_less row g f b)) (low_kept row g f h b) (low_place_kept row g f h b))
+    h.rex
 
 pub below_had : (row : Row) (g f : Fields) → Had row f → Below row g f → is_met (b_demand row.op row.map (opcode_of row g)) (b_needed row g) ≡ true → Had row g
 below_had row g f h b met = record {

@@ -113,6 +113,7 @@ extended_byte bs w h one =
     low W16 n lt = extended_low (2 ^ 7) (2 ^ 16) (n % 2 ^ 16) n (omega arith) lt
     low W32 n lt = extended_low (2 ^ 7) (2 ^ 32) (n % 2 ^ 32) n (omega arith) lt
     low W64 n lt = extended_low (2 ^ 7) (2 ^ 64) (n % 2 ^ 64) n (omega arith) lt
+
     high : (w : Width) (n : ℕ) → 2 ^ 7 ≤ n → n < 2 ^ 8 → is_extended (2 ^ 7) (size w) ((n + (2 ^ 64 - 2 ^ 8)) % size w) ≡ true
     high W8 n le lt = extended_high (2 ^ 7) (2 ^ 8) ((n + (2 ^ 64 - 2 ^ 8)) % 2 ^ 8) (n + (2 ^ 8 - 2 ^ 8)) (omega arith) (omega arith) (omega arith)
     high W16 n le lt = extended_high (2 ^ 7) (2 ^ 16) ((n + (2 ^ 64 - 2 ^ 8)) % 2 ^ 16) (n + (2 ^ 16 - 2 ^ 8)) (omega arith) (omega arith) (omega arith)
@@ -132,5 +133,6 @@ extended_four bs h four =
   where
     low : (n : ℕ) → n < 2 ^ 31 → is_extended (2 ^ 31) (2 ^ 64) (n % 2 ^ 64) ≡ true
     low n lt = extended_low (2 ^ 31) (2 ^ 64) (n % 2 ^ 64) n (omega arith) lt
+
     high : (n : ℕ) → 2 ^ 31 ≤ n → n < 2 ^ 32 → is_extended (2 ^ 31) (2 ^ 64) ((n + (2 ^ 64 - 2 ^ 32)) % 2 ^ 64) ≡ true
     high n le lt = extended_high (2 ^ 31) (2 ^ 64) ((n + (2 ^ 64 - 2 ^ 32)) % 2 ^ 64) (n + (2 ^ 64 - 2 ^ 32)) (omega arith) (omega arith) (omega arith)

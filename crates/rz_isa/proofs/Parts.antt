@@ -284,13 +284,13 @@ barred a b n c h = elim c [ inl x ↦ grind arith | inr y ↦ grind arith ]
 
 pub reg_field_suits : (row : Row) (f : Fields) → Had row f → suits (rex_for row f) f.w f.reg ≡ true
 reg_field_suits row f h = suits_by (needs_rex row f) (is_low_byte f.w f.reg) (is_high f.reg) (0x40 + rex_needed row f) f.w f.reg refl refl
-  (λ e. or_middle (nat_lt 0 (rex_needed row f)) (is_low_byte f.w f.reg) (low_byte_place (rm_width row.op f.w) f.rm) e)
-  (λ e. barred (is_high f.reg) (high_place f.rm) (needs_rex row f) (inl e) h.rex)
+    (λ e. or_middle (nat_lt 0 (rex_needed row f)) (is_low_byte f.w f.reg) (low_byte_place (rm_width row.op f.w) f.rm) e)
+    (λ e. barred (is_high f.reg) (high_place f.rm) (needs_rex row f) (inl e) h.rex)
 
 pub place_suits : (row : Row) (f : Fields) (r : Reg) → Had row f → f.rm ≡ places.Reg r → suits (rex_for row f) (rm_width row.op f.w) r ≡ true
 place_suits row f r h e = suits_by (needs_rex row f) (is_low_byte (rm_width row.op f.w) r) (is_high r) (0x40 + rex_needed row f) (rm_width row.op f.w) r refl refl
-  (λ l. or_last (nat_lt 0 (rex_needed row f)) (is_low_byte f.w f.reg) (low_byte_place (rm_width row.op f.w) f.rm) (ap (low_byte_place (rm_width row.op f.w)) e ∙ l))
-  (λ l. barred (is_high f.reg) (high_place f.rm) (needs_rex row f) (inr (ap high_place e ∙ l)) h.rex)
+    (λ l. or_last (nat_lt 0 (rex_needed row f)) (is_low_byte f.w f.reg) (low_byte_place (rm_width row.op f.w) f.rm) (ap (low_byte_place (rm_width row.op f.w)) e ∙ l))
+    (λ l. barred (is_high f.reg) (high_place f.rm) (needs_rex row f) (inr (ap high_place e ∙ l)) h.rex)
 
 -- ---- the ModRM operand and the register are read again
 
@@ -334,6 +334,7 @@ fits_by rule digit v rex next reg p bs h d f = subst (λ k. rm_fits (Some rule) 
   where
     three : (a b c : Bool) → a ≡ true → b ≡ true → c ≡ true → (a && b && c) ≡ true
     three a b c ea eb ec = grind arith
+
     same : (a b : ℕ) → a ≡ b → (a == b) ≡ true
     same a b e = grind (arith, nat_tests)
 

@@ -68,8 +68,8 @@ and_left a b h = grind arith
 
 pub disp_again : (low : ℕ) (z : ℤ) → is_disp z ≡ true → signed (disp_bytes (mode_of low z) z) ≡ z
 disp_again low z d = if_both (λ m. signed (disp_bytes m z) ≡ z) (is_zero z && not (low == 5)) 0 (if is_small z then 1 else 2)
-  (λ e. zero_is z (and_left _ _ e))
-  (λ _. if_both (λ m. signed (disp_bytes m z) ≡ z) (is_small z) 1 2 (λ s. signed_1 z s) (λ _. signed_4 z d))
+    (λ e. zero_is z (and_left _ _ e))
+    (λ _. if_both (λ m. signed (disp_bytes m z) ≡ z) (is_small z) 1 2 (λ s. signed_1 z s) (λ _. signed_4 z d))
 
 pub mode_small : (low : ℕ) (z : ℤ) → mode_of low z < 3
 mode_small low z = grind arith

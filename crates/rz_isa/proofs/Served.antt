@@ -138,40 +138,40 @@ pub record Serves (rows : List Row) (form : Form) (x : Insn) (k : ℕ) (row : Ro
 pub emits_mov : (rows : List Row) (k r n at : ℕ) → Serves rows forms.Near (insns.Mov W32 (places.Reg (regs.R r)) (operands.Imm n)) k mov_row → r < 16 → n < 2 ^ 32
     → IsSome (canonical rows (insns.Mov W32 (places.Reg (regs.R r)) (operands.Imm n)) at forms.Near)
 emits_mov rows k r n at s lr ln = served rows (insns.Mov W32 (places.Reg (regs.R r)) (operands.Imm n)) at forms.Near k mov_row (record (least mov_row) { w = W32; reg = regs.R r; imm = n }) s.in_table s.first refl refl
-  (record { w = refl; reg = below_test r 16 lr; rm = refl; cond = refl; imm = below_test n (2 ^ 32) ln; rep = refl; rex = refl; b = refl }) refl
+    (record { w = refl; reg = below_test r 16 lr; rm = refl; cond = refl; imm = below_test n (2 ^ 32) ln; rep = refl; rex = refl; b = refl }) refl
 
 pub emits_jcc : (rows : List Row) (k : ℕ) (c : Cond) (t at : ℕ) → Serves rows forms.Near (insns.Jcc c t) k jcc_row → t < 2 ^ 64 → near at 6 t ≡ true → IsSome (canonical rows (insns.Jcc c t) at forms.Near)
 emits_jcc rows k c t at s lt h = served rows (insns.Jcc c t) at forms.Near k jcc_row (record (least jcc_row) { cond = number_of c; imm = t }) s.in_table s.first refl refl
-  (record { w = refl; reg = refl; rm = refl; cond = cond_low c; imm = below_test t (2 ^ 64) lt; rep = refl; rex = refl; b = refl }) h
+    (record { w = refl; reg = refl; rm = refl; cond = cond_low c; imm = below_test t (2 ^ 64) lt; rep = refl; rex = refl; b = refl }) h
 
 pub emits_jcc_short : (rows : List Row) (k : ℕ) (c : Cond) (t at : ℕ) → Serves rows forms.Short (insns.Jcc c t) k jcc_short_row → t < 2 ^ 64 → close at 2 t ≡ true → IsSome (canonical rows (insns.Jcc c t) at forms.Short)
 emits_jcc_short rows k c t at s lt h = served rows (insns.Jcc c t) at forms.Short k jcc_short_row (record (least jcc_short_row) { cond = number_of c; imm = t }) s.in_table s.first refl refl
-  (record { w = refl; reg = refl; rm = refl; cond = cond_low c; imm = below_test t (2 ^ 64) lt; rep = refl; rex = refl; b = refl }) h
+    (record { w = refl; reg = refl; rm = refl; cond = cond_low c; imm = below_test t (2 ^ 64) lt; rep = refl; rex = refl; b = refl }) h
 
 pub emits_jrcxz : (rows : List Row) (k t at : ℕ) → Serves rows forms.Near (insns.Jrcxz t) k jrcxz_row → t < 2 ^ 64 → close at 2 t ≡ true → IsSome (canonical rows (insns.Jrcxz t) at forms.Near)
 emits_jrcxz rows k t at s lt h = served rows (insns.Jrcxz t) at forms.Near k jrcxz_row (record (least jrcxz_row) { imm = t }) s.in_table s.first refl refl
-  (record { w = refl; reg = refl; rm = refl; cond = refl; imm = below_test t (2 ^ 64) lt; rep = refl; rex = refl; b = refl }) h
+    (record { w = refl; reg = refl; rm = refl; cond = refl; imm = below_test t (2 ^ 64) lt; rep = refl; rex = refl; b = refl }) h
 
 pub emits_jmp : (rows : List Row) (k t at : ℕ) → Serves rows forms.Near (insns.Jmp t) k jmp_row → t < 2 ^ 64 → near at 5 t ≡ true → IsSome (canonical rows (insns.Jmp t) at forms.Near)
 emits_jmp rows k t at s lt h = served rows (insns.Jmp t) at forms.Near k jmp_row (record (least jmp_row) { imm = t }) s.in_table s.first refl refl
-  (record { w = refl; reg = refl; rm = refl; cond = refl; imm = below_test t (2 ^ 64) lt; rep = refl; rex = refl; b = refl }) h
+    (record { w = refl; reg = refl; rm = refl; cond = refl; imm = below_test t (2 ^ 64) lt; rep = refl; rex = refl; b = refl }) h
 
 pub emits_jmp_short : (rows : List Row) (k t at : ℕ) → Serves rows forms.Short (insns.Jmp t) k jmp_short_row → t < 2 ^ 64 → close at 2 t ≡ true → IsSome (canonical rows (insns.Jmp t) at forms.Short)
 emits_jmp_short rows k t at s lt h = served rows (insns.Jmp t) at forms.Short k jmp_short_row (record (least jmp_short_row) { imm = t }) s.in_table s.first refl refl
-  (record { w = refl; reg = refl; rm = refl; cond = refl; imm = below_test t (2 ^ 64) lt; rep = refl; rex = refl; b = refl }) h
+    (record { w = refl; reg = refl; rm = refl; cond = refl; imm = below_test t (2 ^ 64) lt; rep = refl; rex = refl; b = refl }) h
 
 pub emits_syscall : (rows : List Row) (k at : ℕ) → Serves rows forms.Near insns.Syscall k (lone_row maps.Two 0x05 None forms.Near ops.Syscall) → IsSome (canonical rows insns.Syscall at forms.Near)
 emits_syscall rows k at s = served rows insns.Syscall at forms.Near k (lone_row maps.Two 0x05 None forms.Near ops.Syscall) (least (lone_row maps.Two 0x05 None forms.Near ops.Syscall)) s.in_table s.first refl refl
-  (record { w = refl; reg = refl; rm = refl; cond = refl; imm = refl; rep = refl; rex = refl; b = refl }) refl
+    (record { w = refl; reg = refl; rm = refl; cond = refl; imm = refl; rep = refl; rex = refl; b = refl }) refl
 
 pub emits_ud2 : (rows : List Row) (k at : ℕ) → Serves rows forms.Near insns.Ud2 k (lone_row maps.Two 0x0b None forms.Near ops.Ud2) → IsSome (canonical rows insns.Ud2 at forms.Near)
 emits_ud2 rows k at s = served rows insns.Ud2 at forms.Near k (lone_row maps.Two 0x0b None forms.Near ops.Ud2) (least (lone_row maps.Two 0x0b None forms.Near ops.Ud2)) s.in_table s.first refl refl
-  (record { w = refl; reg = refl; rm = refl; cond = refl; imm = refl; rep = refl; rex = refl; b = refl }) refl
+    (record { w = refl; reg = refl; rm = refl; cond = refl; imm = refl; rep = refl; rex = refl; b = refl }) refl
 
 pub emits_hlt : (rows : List Row) (k at : ℕ) → Serves rows forms.Near insns.Hlt k (lone_row maps.One 0xf4 None forms.Near ops.Hlt) → IsSome (canonical rows insns.Hlt at forms.Near)
 emits_hlt rows k at s = served rows insns.Hlt at forms.Near k (lone_row maps.One 0xf4 None forms.Near ops.Hlt) (least (lone_row maps.One 0xf4 None forms.Near ops.Hlt)) s.in_table s.first refl refl
-  (record { w = refl; reg = refl; rm = refl; cond = refl; imm = refl; rep = refl; rex = refl; b = refl }) refl
+    (record { w = refl; reg = refl; rm = refl; cond = refl; imm = refl; rep = refl; rex = refl; b = refl }) refl
 
 pub emits_int3 : (rows : List Row) (k at : ℕ) → Serves rows forms.Near insns.Int3 k (lone_row maps.One 0xcc None forms.Near ops.Int3) → IsSome (canonical rows insns.Int3 at forms.Near)
 emits_int3 rows k at s = served rows insns.Int3 at forms.Near k (lone_row maps.One 0xcc None forms.Near ops.Int3) (least (lone_row maps.One 0xcc None forms.Near ops.Int3)) s.in_table s.first refl refl
-  (record { w = refl; reg = refl; rm = refl; cond = refl; imm = refl; rep = refl; rex = refl; b = refl }) refl
+    (record { w = refl; reg = refl; rm = refl; cond = refl; imm = refl; rep = refl; rex = refl; b = refl }) refl

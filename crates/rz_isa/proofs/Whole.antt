@@ -51,6 +51,7 @@ eight_none r b s = by r.rm refl
       where
         some_not : (k : RmRule) → Some k ≡ r.rm → is_block r ≡ true → (r.span == 8) ≡ true → ⊥
         some_not k e b s = grind (arith, nat_tests)
+
     by : (x : Option RmRule) → x ≡ r.rm → in_opcode r.rm r.span ≡ true
     by x e = none_then r.rm refl b s
 
@@ -218,7 +219,7 @@ escape_short maps.Two = omega arith
 
 rm_len_short : (m s : ℕ) → rm_len m s ≤ 6
 rm_len_short m s = if_both (λ k. k ≤ 6) (m / 64 == 3) 1 (if m % 8 == 4 then 2 + disp_len (m / 64) (s % 8) else 1 + disp_len (m / 64) (m % 8)) (λ _. omega arith)
-  (λ _. if_both (λ k. k ≤ 6) (m % 8 == 4) (2 + disp_len (m / 64) (s % 8)) (1 + disp_len (m / 64) (m % 8)) (λ _. omega (arith, disp_short (m / 64) (s % 8))) (λ _. omega (arith, disp_short (m / 64) (m % 8))))
+    (λ _. if_both (λ k. k ≤ 6) (m % 8 == 4) (2 + disp_len (m / 64) (s % 8)) (1 + disp_len (m / 64) (m % 8)) (λ _. omega (arith, disp_short (m / 64) (s % 8))) (λ _. omega (arith, disp_short (m / 64) (m % 8))))
 
 rm_short : (rule : RmRule) (digit : Option ℕ) (bs : List ℕ) → rm_fits (Some rule) digit bs ≡ true → length bs ≤ 6
 rm_short rule digit [] h = omega arith
@@ -290,9 +291,9 @@ spelled_for row f next regular can ln near =
       bytes = refl;
       fits = r.fits;
       all = bytes_append p.prefixes _ (prefix_bytes (is_half f.w) (stands_f3 row.f3 f.rep))
-        (bytes_append (rex_bytes p.rex) _ (rex_are p.rex b.fits)
-        (bytes_append (escape row.map) _ (escape_are row.map)
-        (and_both _ _ (byte_test p.opcode o.byte) (bytes_append p.rm p.imm r.rm (little_bytes (imm_len row.imm f.w) (imm_value row.imm next f.imm))))));
+          (bytes_append (rex_bytes p.rex) _ (rex_are p.rex b.fits)
+          (bytes_append (escape row.map) _ (escape_are row.map)
+          (and_both _ _ (byte_test p.opcode o.byte) (bytes_append p.rm p.imm r.rm (little_bytes (imm_len row.imm f.w) (imm_value row.imm next f.imm))))));
       short = short_test (length (bytes_of row p)) short;
     }
   where

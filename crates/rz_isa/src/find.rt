@@ -19,13 +19,7 @@ fn with_place(letter: Letter, place: Place, f: Fields) -> Option<Fields>
             _ => None,
         },
         Letter::A => match place {
-            Place::Reg(reg) => {
-                if is_first(reg) {
-                    Some(f)
-                } else {
-                    None
-                }
-            }
+            Place::Reg(reg) => { if is_first(reg) { Some(f) } else { None } }
             _ => None,
         },
         _ => Some(Fields { rm: place, ..f }),
@@ -51,13 +45,7 @@ fn with_reg(letter: Letter, reg: Reg, f: Fields) -> Option<Fields>
     ensures { result ≡ with_reg_at letter reg f }
 {
     match letter {
-        Letter::A => {
-            if is_first(reg) {
-                Some(f)
-            } else {
-                None
-            }
-        }
+        Letter::A => { if is_first(reg) { Some(f) } else { None } }
         _ => Some(Fields { reg, ..f }),
     }
 }
@@ -73,13 +61,7 @@ fn with_count(letter: Letter, count: Count, f: Fields) -> Option<Fields>
 {
     match letter {
         Letter::One => match count {
-            Count::Imm(n) => {
-                if n == 1 {
-                    Some(f)
-                } else {
-                    None
-                }
-            }
+            Count::Imm(n) => { if n == 1 { Some(f) } else { None } }
             Count::Cl => None,
         },
         Letter::Cl => match count {
@@ -87,7 +69,10 @@ fn with_count(letter: Letter, count: Count, f: Fields) -> Option<Fields>
             Count::Imm(_) => None,
         },
         _ => match count {
-            Count::Imm(n) => Some(Fields { imm: u64::from(n), ..f }),
+            Count::Imm(n) => Some(Fields {
+                imm: u64::from(n),
+                ..f
+            }),
             Count::Cl => None,
         },
     }
@@ -98,7 +83,10 @@ fn with_index(letter: Letter, index: BitIndex, f: Fields) -> Option<Fields>
 {
     match letter {
         Letter::Imm => match index {
-            BitIndex::Imm(n) => Some(Fields { imm: u64::from(n), ..f }),
+            BitIndex::Imm(n) => Some(Fields {
+                imm: u64::from(n),
+                ..f
+            }),
             BitIndex::Reg(_) => None,
         },
         _ => match index {
@@ -170,7 +158,13 @@ fn found_in(operation: Op, insn: &Insn, f: Fields) -> Option<Fields>
             _ => None,
         },
         Op::Extend(signed, d, s) => match *insn {
-            Insn::Extend { signed: o, to, from, dst, src } if signed == o && from == letter_width(s, to) => {
+            Insn::Extend {
+                signed: o,
+                to,
+                from,
+                dst,
+                src,
+            } if signed == o && from == letter_width(s, to) => {
                 with_number_and_place(d, dst, s, src, Fields { w: to, ..f })
             }
             _ => None,
@@ -208,33 +202,73 @@ fn found_in(operation: Op, insn: &Insn, f: Fields) -> Option<Fields>
             _ => None,
         },
         Op::Imul3(d, s, _) => match *insn {
-            Insn::Imul3 { w, dst, src, imm } => with_number_and_place(d, dst, s, src, Fields { w, imm, ..f }),
+            Insn::Imul3 { w, dst, src, imm } => with_number_and_place(
+                d,
+                dst,
+                s,
+                src,
+                Fields { w, imm, ..f },
+            ),
             _ => None,
         },
         Op::Shift(op, d, c) => match *insn {
-            Insn::Shift { op: o, w, dst, count } if op == o => {
-                counted(c, count, with_place(d, dst, Fields { w, ..f }))
-            }
+            Insn::Shift {
+                op: o,
+                w,
+                dst,
+                count,
+            } if op == o => { counted(c, count, with_place(d, dst, Fields { w, ..f })) }
             _ => None,
         },
         Op::DoubleShift(left, d, s, c) => match *insn {
-            Insn::DoubleShift { left: o, w, dst, src, count } if left == o => {
-                counted(c, count, with_place_and_number(d, dst, s, src, Fields { w, ..f }))
+            Insn::DoubleShift {
+                left: o,
+                w,
+                dst,
+                src,
+                count,
+            } if left == o => {
+                counted(
+                    c,
+                    count,
+                    with_place_and_number(d, dst, s, src, Fields { w, ..f }),
+                )
             }
             _ => None,
         },
         Op::Cmov(d, s) => match *insn {
             Insn::Cmov { cond, w, dst, src } => {
-                with_number_and_place(d, dst, s, src, Fields { w, cond: cond.number(), ..f })
+                with_number_and_place(
+                    d,
+                    dst,
+                    s,
+                    src,
+                    Fields {
+                        w,
+                        cond: cond.number(),
+                        ..f
+                    },
+                )
             }
             _ => None,
         },
         Op::Set(d) => match *insn {
-            Insn::Set { cond, dst } => with_place(d, dst, Fields { cond: cond.number(), ..f }),
+            Insn::Set { cond, dst } => with_place(
+                d,
+                dst,
+                Fields {
+                    cond: cond.number(),
+                    ..f
+                },
+            ),
             _ => None,
         },
         Op::Jcc => match *insn {
-            Insn::Jcc { cond, target } => Some(Fields { cond: cond.number(), imm: target, ..f }),
+            Insn::Jcc { cond, target } => Some(Fields {
+                cond: cond.number(),
+                imm: target,
+                ..f
+            }),
             _ => None,
         },
         Op::Jrcxz => match *insn {
@@ -258,7 +292,10 @@ fn found_in(operation: Op, insn: &Insn, f: Fields) -> Option<Fields>
             _ => None,
         },
         Op::Ret => match *insn {
-            Insn::Ret { pop } => Some(Fields { imm: u64::from(pop), ..f }),
+            Insn::Ret { pop } => Some(Fields {
+                imm: u64::from(pop),
+                ..f
+            }),
             _ => None,
         },
         Op::Convert => match *insn {
@@ -282,9 +319,12 @@ fn found_in(operation: Op, insn: &Insn, f: Fields) -> Option<Fields>
             _ => None,
         },
         Op::BitTest(op, d, i) => match *insn {
-            Insn::BitTest { op: o, w, dst, index } if op == o => {
-                indexed(i, index, with_place(d, dst, Fields { w, ..f }))
-            }
+            Insn::BitTest {
+                op: o,
+                w,
+                dst,
+                index,
+            } if op == o => { indexed(i, index, with_place(d, dst, Fields { w, ..f })) }
             _ => None,
         },
         Op::Scan(op, d, s) => match *insn {
@@ -294,11 +334,19 @@ fn found_in(operation: Op, insn: &Insn, f: Fields) -> Option<Fields>
             _ => None,
         },
         Op::Movs => match *insn {
-            Insn::Movs { w, rep } => Some(Fields { w, rep: rep_byte(rep), ..f }),
+            Insn::Movs { w, rep } => Some(Fields {
+                w,
+                rep: rep_byte(rep),
+                ..f
+            }),
             _ => None,
         },
         Op::Stos => match *insn {
-            Insn::Stos { w, rep } => Some(Fields { w, rep: rep_byte(rep), ..f }),
+            Insn::Stos { w, rep } => Some(Fields {
+                w,
+                rep: rep_byte(rep),
+                ..f
+            }),
             _ => None,
         },
         Op::Flag(op) => match *insn {
@@ -386,5 +434,9 @@ fn find(row: &Row, insn: &Insn) -> Option<Fields>
     ensures { result ≡ found row.now insn.now }
 {
     let fields = found_in(row.op, insn, least(row))?;
-    if can_have(row, &fields) { Some(fields) } else { None }
+    if can_have(row, &fields) {
+        Some(fields)
+    } else {
+        None
+    }
 }

@@ -269,7 +269,11 @@ fn r_needed(row: &Row, f: &Fields) -> u32
     ensures value { result ≡ r_needed_of row.now f.now }
     ensures small { result ≤ 64 }
 {
-    if in_reg_field(row.rm, row.digit) { code_of(f.reg) / 8 } else { 0 }
+    if in_reg_field(row.rm, row.digit) {
+        code_of(f.reg) / 8
+    } else {
+        0
+    }
 }
 
 fn x_needed(place: Place) -> u32
@@ -297,7 +301,11 @@ fn b_needed(row: &Row, f: &Fields) -> u32
     ensures value { result ≡ b_needed_of row.now f.now }
     ensures small { result ≤ 64 }
 {
-    if in_opcode(row.rm, row.span) { code_of(f.reg) / 8 } else { place_b(f.rm) }
+    if in_opcode(row.rm, row.span) {
+        code_of(f.reg) / 8
+    } else {
+        place_b(f.rm)
+    }
 }
 
 fn rex_needed(row: &Row, f: &Fields) -> u32
@@ -348,7 +356,12 @@ fn bars_rex(f: &Fields) -> bool
 fn opcode_of(row: &Row, f: &Fields) -> u32
     ensures { result ≡ opcode_of_fields row.now f.now }
 {
-    u32::from(row.opcode) + if in_opcode(row.rm, row.span) { code_of(f.reg) % 8 } else { u32::from(f.cond) }
+    u32::from(row.opcode)
+        + if in_opcode(row.rm, row.span) {
+            code_of(f.reg) % 8
+        } else {
+            u32::from(f.cond)
+        }
 }
 
 fn b_demand(op: Op, map: OpMap, opcode: u32) -> Option<u32>
@@ -384,5 +397,8 @@ pub fn can_have(row: &Row, f: &Fields) -> bool
         && has_imm(row.imm, f.w, f.imm)
         && has_rep(row.f3, f.rep)
         && !(bars_rex(f) && needs_rex(row, f))
-        && is_met(b_demand(row.op, row.map, opcode_of(row, f)), b_needed(row, f))
+        && is_met(
+            b_demand(row.op, row.map, opcode_of(row, f)),
+            b_needed(row, f),
+        )
 }

@@ -98,10 +98,27 @@ fn build_from(op: Op, f: &Fields) -> Insn
     ensures { result ≡ build_op op f.now }
 {
     match op {
-        Op::Arith(op, d, s) => Insn::Arith { op, w: f.w, dst: place_at(d, f), src: operand_at(s, f) },
-        Op::Test(d, s) => Insn::Test { w: f.w, dst: place_at(d, f), src: operand_at(s, f) },
-        Op::Mov(d, s) => Insn::Mov { w: f.w, dst: place_at(d, f), src: operand_at(s, f) },
-        Op::Lea(d, s) => Insn::Lea { w: f.w, dst: number_at(d, f), src: place_at(s, f) },
+        Op::Arith(op, d, s) => Insn::Arith {
+            op,
+            w: f.w,
+            dst: place_at(d, f),
+            src: operand_at(s, f),
+        },
+        Op::Test(d, s) => Insn::Test {
+            w: f.w,
+            dst: place_at(d, f),
+            src: operand_at(s, f),
+        },
+        Op::Mov(d, s) => Insn::Mov {
+            w: f.w,
+            dst: place_at(d, f),
+            src: operand_at(s, f),
+        },
+        Op::Lea(d, s) => Insn::Lea {
+            w: f.w,
+            dst: number_at(d, f),
+            src: place_at(s, f),
+        },
         Op::Extend(signed, d, s) => Insn::Extend {
             signed,
             to: f.w,
@@ -109,16 +126,42 @@ fn build_from(op: Op, f: &Fields) -> Insn
             dst: number_at(d, f),
             src: place_at(s, f),
         },
-        Op::Push(s) => Insn::Push { src: operand_at(s, f) },
-        Op::Pop(d) => Insn::Pop { dst: place_at(d, f) },
+        Op::Push(s) => Insn::Push {
+            src: operand_at(s, f),
+        },
+        Op::Pop(d) => Insn::Pop {
+            dst: place_at(d, f),
+        },
         Op::Leave => Insn::Leave,
         Op::PushFlags => Insn::PushFlags,
         Op::PopFlags => Insn::PopFlags,
-        Op::Unary(op, d) => Insn::Unary { op, w: f.w, dst: place_at(d, f) },
-        Op::Wide(op, s) => Insn::Wide { op, w: f.w, src: place_at(s, f) },
-        Op::Imul2(d, s) => Insn::Imul2 { w: f.w, dst: number_at(d, f), src: place_at(s, f) },
-        Op::Imul3(d, s, _) => Insn::Imul3 { w: f.w, dst: number_at(d, f), src: place_at(s, f), imm: f.imm },
-        Op::Shift(op, d, c) => Insn::Shift { op, w: f.w, dst: place_at(d, f), count: count_at(c, f) },
+        Op::Unary(op, d) => Insn::Unary {
+            op,
+            w: f.w,
+            dst: place_at(d, f),
+        },
+        Op::Wide(op, s) => Insn::Wide {
+            op,
+            w: f.w,
+            src: place_at(s, f),
+        },
+        Op::Imul2(d, s) => Insn::Imul2 {
+            w: f.w,
+            dst: number_at(d, f),
+            src: place_at(s, f),
+        },
+        Op::Imul3(d, s, _) => Insn::Imul3 {
+            w: f.w,
+            dst: number_at(d, f),
+            src: place_at(s, f),
+            imm: f.imm,
+        },
+        Op::Shift(op, d, c) => Insn::Shift {
+            op,
+            w: f.w,
+            dst: place_at(d, f),
+            count: count_at(c, f),
+        },
         Op::DoubleShift(left, d, s, c) => Insn::DoubleShift {
             left,
             w: f.w,
@@ -132,23 +175,58 @@ fn build_from(op: Op, f: &Fields) -> Insn
             dst: number_at(d, f),
             src: place_at(s, f),
         },
-        Op::Set(d) => Insn::Set { cond: Cond::from_number(f.cond % 16), dst: place_at(d, f) },
-        Op::Jcc => Insn::Jcc { cond: Cond::from_number(f.cond % 16), target: f.imm },
+        Op::Set(d) => Insn::Set {
+            cond: Cond::from_number(f.cond % 16),
+            dst: place_at(d, f),
+        },
+        Op::Jcc => Insn::Jcc {
+            cond: Cond::from_number(f.cond % 16),
+            target: f.imm,
+        },
         Op::Jrcxz => Insn::Jrcxz { target: f.imm },
         Op::Jmp => Insn::Jmp { target: f.imm },
         Op::Call => Insn::Call { target: f.imm },
-        Op::CallInd(s) => Insn::CallInd { src: place_at(s, f) },
-        Op::JmpInd(s) => Insn::JmpInd { src: place_at(s, f) },
-        Op::Ret => Insn::Ret { pop: (f.imm % 0x1_0000) as u16 },
+        Op::CallInd(s) => Insn::CallInd {
+            src: place_at(s, f),
+        },
+        Op::JmpInd(s) => Insn::JmpInd {
+            src: place_at(s, f),
+        },
+        Op::Ret => Insn::Ret {
+            pop: (f.imm % 0x1_0000) as u16,
+        },
         Op::Convert => Insn::Convert { w: f.w },
         Op::SignFill => Insn::SignFill { w: f.w },
-        Op::Xchg(d, s) => Insn::Xchg { w: f.w, dst: place_at(d, f), src: reg_at(s, f) },
+        Op::Xchg(d, s) => Insn::Xchg {
+            w: f.w,
+            dst: place_at(d, f),
+            src: reg_at(s, f),
+        },
         Op::Nop => Insn::Nop,
-        Op::Bswap(d) => Insn::Bswap { w: f.w, reg: number_at(d, f) },
-        Op::BitTest(op, d, i) => Insn::BitTest { op, w: f.w, dst: place_at(d, f), index: index_at(i, f) },
-        Op::Scan(op, d, s) => Insn::Scan { op, w: f.w, dst: number_at(d, f), src: place_at(s, f) },
-        Op::Movs => Insn::Movs { w: f.w, rep: f.rep > 0 },
-        Op::Stos => Insn::Stos { w: f.w, rep: f.rep > 0 },
+        Op::Bswap(d) => Insn::Bswap {
+            w: f.w,
+            reg: number_at(d, f),
+        },
+        Op::BitTest(op, d, i) => Insn::BitTest {
+            op,
+            w: f.w,
+            dst: place_at(d, f),
+            index: index_at(i, f),
+        },
+        Op::Scan(op, d, s) => Insn::Scan {
+            op,
+            w: f.w,
+            dst: number_at(d, f),
+            src: place_at(s, f),
+        },
+        Op::Movs => Insn::Movs {
+            w: f.w,
+            rep: f.rep > 0,
+        },
+        Op::Stos => Insn::Stos {
+            w: f.w,
+            rep: f.rep > 0,
+        },
         Op::Flag(op) => Insn::Flag { op },
         Op::Syscall => Insn::Syscall,
         Op::Ud2 => Insn::Ud2,
