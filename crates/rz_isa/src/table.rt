@@ -18,7 +18,8 @@ pub trait InsnTable {
     /// The row of a number below `count`.
     fn row(n: usize) -> Row
         requires { n < length rows }
-        ensures { slice_get rows n ≡ Some result };
+        ensures value { slice_get rows n ≡ Some result }
+        ensures regular { IsTrue (is_regular result) };
 
     /// No opcode of one byte is a prefix, REX or the escape, and each digit has its ModRM byte.
     ghost plain: { IsTrue (list_all is_plain rows) };

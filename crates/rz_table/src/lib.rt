@@ -57,3 +57,6 @@ mod profile_rows;
 
 pub use early::Early;
 pub use profile::Profile1;
+
+#[cfg(test)]
+mod tests;
