@@ -1,9 +1,8 @@
-use Rattle.std.proofs.Common.{ℕ, zero, suc, ◌≡◌, ◌≢◌, ◌+◌, ◌-◌, ◌%◌, ◌^◌, ◌<◌, ◌≤◌, refl, ap, sym, ◌∙◌, subst, arith, List, [], ◌∷◌, ◌++◌, length, Bool, true, false, ◌&&◌, inl, inr, Option, Some, None, length-append}
-use Rattle.std.specs.Prelude.{nat_lt, nat_le, slice_get, is_some, if◌then◌else◌}
+use Rattle.std.proofs.Common.{ℕ, zero, suc, ◌≡◌, ◌+◌, ◌-◌, ◌%◌, ◌^◌, ◌<◌, ◌≤◌, refl, ap, sym, ◌∙◌, subst, arith, List, [], ◌∷◌, length, Bool, true, false, ◌&&◌, inl, inr, Option, Some, None}
+use Rattle.std.specs.Prelude.{nat_lt, slice_get, is_some, if◌then◌else◌}
 use Rattle.std.specs.List.{list_all}
 use Rattle.std.proofs.lemmas.Bool.{cases_Bool}
 use Rattle.std.proofs.lemmas.Bool.Decides.{nat_tests}
-use Rattle.std.proofs.lemmas.Grind.{common_steps}
 use Rattle.rz_isa.specs.declared.rows.Form.{Form}
 use Rattle.rz_isa.specs.declared.rows.Form.TheVariants as forms
 use Rattle.rz_isa.specs.declared.rows.RmRule.{RmRule}
@@ -13,13 +12,13 @@ use Rattle.rz_isa.specs.declared.instruction.Insn.{Insn}
 use Rattle.rz_isa.specs.declared.instruction.Place.{Place}
 use Rattle.rz_isa.specs.declared.instruction.Place.TheVariants as places
 use Rattle.rz_isa.specs.declared.spelled.Fields.{Fields}
-use Rattle.rz_isa.specs.Spelling.{Parts, bytes_of, rex_bytes, escape, imm_len, SpelledBy}
+use Rattle.rz_isa.specs.Spelling.{bytes_of, rex_bytes, escape, imm_len, SpelledBy}
 use Rattle.rz_isa.specs.Fields.{fields, build_op}
-use Rattle.rz_isa.specs.Having.{can_have, code_of}
+use Rattle.rz_isa.specs.Having.{code_of}
 use Rattle.rz_isa.specs.Finding.{found}
 use Rattle.rz_isa.specs.Regular.{is_regular}
 use Rattle.rz_isa.specs.Spells.{next_address, RowSpells, CanHave, Builds, NoneBuilds}
-use Rattle.rz_isa.specs.Canonical.{rm_bytes, imm_value, parts_for, reaches, length_for, same_form, Chosen, or_chosen, chosen_by, chosen, spelled_at, canonical}
+use Rattle.rz_isa.specs.Canonical.{rm_bytes, imm_value, parts_for, reaches, length_for, same_form, Chosen, or_chosen, chosen_by, spelled_at}
 use Rattle.rz_isa.specs.Table.{SpelledSomewhere, IsCanonicalRow, OneCanonicalRow, CanonicalSpells}
 use Rattle.rz_isa.proofs.Exclusion.{list_all_get}
 use Rattle.rz_isa.proofs.Inverse.{builds_found}

@@ -1,4 +1,4 @@
-use Rattle.std.proofs.Common.{ℕ, ◌≡◌, ◌≢◌, ◌^◌, ◌<◌, ◌==◌, refl, ap, sym, ◌∙◌, subst, arith, Bool, true, false, not, ◌&&◌, ◌||◌, Option, Some, None}
+use Rattle.std.proofs.Common.{ℕ, ◌≡◌, ◌==◌, ap, ◌∙◌, subst, arith, Bool, true, not, ◌&&◌, ◌||◌, Option, Some, None}
 use Rattle.std.specs.Prelude.{is_some, if◌then◌else◌}
 use Rattle.std.specs.Option.{option_and_then}
 use Rattle.std.proofs.lemmas.Bool.Decides.{nat_tests}
@@ -20,7 +20,7 @@ use Rattle.rz_isa.specs.Having.{has_imm, in_opcode, can_have}
 use Rattle.rz_isa.specs.Finding.{least, found_in, if_can, found}
 use Rattle.rz_isa.specs.Regular.{operands_apart, imm_suits, width_suits, stands_alone, is_exchange, is_block, digit_small, rule_small, is_regular}
 use Rattle.rz_isa.proofs.Built.{imm_small, through, built}
-use Rattle.rz_isa.proofs.Again.{Had, had_of, can_of, again}
+use Rattle.rz_isa.proofs.Again.{had_of, can_of, again}
 use Rattle.rz_isa.proofs.Lesser.{below_had}
 
 -- ---- what is asked of a row, one by one

@@ -1,6 +1,5 @@
-use Rattle.std.proofs.Common.{ℕ, ◌≡◌, ◌≢◌, ◌+◌, ◌*◌, ◌/◌, ◌%◌, ◌^◌, ◌<◌, ◌≤◌, ◌==◌, refl, ap, sym, ◌∙◌, subst, arith, Bool, true, false, not, ◌&&◌, ◌||◌, inl, inr, Option, Some, None, ◌⊎◌}
-use Rattle.std.specs.Prelude.{nat_lt, nat_le, is_none, is_some, if◌then◌else◌}
-use Rattle.std.specs.Option.{option_and_then}
+use Rattle.std.proofs.Common.{ℕ, ◌≡◌, ◌+◌, ◌*◌, ◌/◌, ◌≤◌, ◌==◌, refl, ap, sym, ◌∙◌, subst, arith, Bool, true, false, not, ◌&&◌, ◌||◌, inl, inr, Option, Some, None}
+use Rattle.std.specs.Prelude.{nat_lt, nat_le, if◌then◌else◌}
 use Rattle.std.proofs.lemmas.Bool.{cases_Bool}
 use Rattle.std.proofs.lemmas.Bool.Decides.{nat_tests}
 use Rattle.rz_num.specs.declared.width.Width.{Width}
@@ -25,8 +24,8 @@ use Rattle.rz_isa.specs.declared.instruction.Place.TheVariants as places
 use Rattle.rz_isa.specs.declared.spelled.Fields.{Fields}
 use Rattle.rz_isa.specs.Spelling.{is_met, b_demand}
 use Rattle.rz_isa.specs.Fields.{letter_width, rm_width, number_of}
-use Rattle.rz_isa.specs.Having.{is_byte, is_wide, has_width, is_register, is_first, is_high, is_low_byte, in_reg_field, in_opcode, has_reg, names_register, names_memory, has_place, has_cond, is_extended, has_imm, has_rep, code_of, w_needed, r_needed, x_needed, place_b, b_needed, rex_needed, low_byte_place, high_place, bars_rex, needs_rex, opcode_of, can_have}
-use Rattle.rz_isa.specs.Finding.{least_width, least_place, least}
+use Rattle.rz_isa.specs.Having.{is_byte, has_width, is_register, is_first, is_high, is_low_byte, in_reg_field, in_opcode, has_reg, names_register, names_memory, has_place, has_cond, has_imm, has_rep, code_of, w_needed, r_needed, x_needed, place_b, b_needed, rex_needed, low_byte_place, high_place, bars_rex, needs_rex, opcode_of}
+use Rattle.rz_isa.specs.Finding.{least_width, least_place}
 use Rattle.rz_isa.proofs.Built.{first_is}
 use Rattle.rz_isa.proofs.Again.{Below, Had}
 

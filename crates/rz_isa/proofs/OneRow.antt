@@ -1,14 +1,12 @@
-use Rattle.std.proofs.Common.{ℕ, ◌≡◌, ◌≢◌, ◌+◌, ◌≤◌, ◌<◌, List, [], ◌∷◌, ◌++◌, Option, Some, None, refl, ap, sym, ◌∙◌, subst, arith, length, Bool, true, false, inl, inr, append_assoc, length-append}
+use Rattle.std.proofs.Common.{ℕ, ◌≡◌, ◌≤◌, ◌<◌, List, [], ◌∷◌, ◌++◌, Some, refl, ap, sym, ◌∙◌, subst, arith, length, Bool, true, false, inl, inr, length-append}
 use Rattle.std.specs.Prelude.{slice_get, nat_lt}
 use Rattle.std.specs.List.{list_all}
 use Rattle.std.proofs.lemmas.Bool.{cases_Bool}
 use Rattle.std.proofs.lemmas.Bool.Decides.{nat_tests}
 use Rattle.std.proofs.lemmas.Grind.{common_steps}
-use Rattle.rz_isa.specs.declared.rows.OpMap.{OpMap}
 use Rattle.rz_isa.specs.declared.rows.Row.{Row}
-use Rattle.rz_isa.specs.Spelling.{Parts, bytes_of, escape, rex_bytes, SpelledBy}
-use Rattle.rz_isa.specs.Spells.{Spells}
-use Rattle.rz_isa.specs.Table.{is_plain, excludes, all_exclude, OneReading, OneRow, Lengths}
+use Rattle.rz_isa.specs.Spelling.{Parts, bytes_of, SpelledBy}
+use Rattle.rz_isa.specs.Table.{is_plain, all_exclude, OneRow, Lengths}
 use Rattle.rz_isa.proofs.Exclusion.{plain_row, list_all_get, exclude_get, no_common, one_reading}
 
 -- what the two spellings say of the parts' bytes

@@ -1,40 +1,31 @@
-use Rattle.std.proofs.Common.{ℕ, zero, suc, ◌≡◌, ◌≢◌, ◌+◌, ◌-◌, ◌*◌, ◌/◌, ◌%◌, ◌^◌, ◌<◌, ◌≤◌, ◌==◌, refl, ap, sym, ◌∙◌, subst, arith, List, [], ◌∷◌, ◌++◌, length, Bool, true, false, not, ◌&&◌, ◌||◌, ◌⊎◌, inl, inr, Option, Some, None, append_assoc, length-append}
-use Rattle.std.specs.Prelude.{nat_lt, nat_le, is_some, if◌then◌else◌}
-use Rattle.std.specs.List.{list_all}
+use Rattle.std.proofs.Common.{ℕ, ◌≡◌, ◌+◌, ◌*◌, ◌/◌, ◌%◌, ◌^◌, ◌<◌, ◌≤◌, ◌==◌, refl, ap, sym, ◌∙◌, subst, arith, List, [], ◌∷◌, length, Bool, true, false, not, ◌&&◌, ◌||◌, ◌⊎◌, inl, inr, Option, Some, None}
+use Rattle.std.specs.Prelude.{nat_lt, nat_le, if◌then◌else◌}
 use Rattle.std.proofs.lemmas.Bool.{cases_Bool}
 use Rattle.std.proofs.lemmas.Bool.Decides.{nat_tests}
-use Rattle.std.proofs.lemmas.Grind.{common_steps}
 use Rattle.rz_num.specs.declared.width.Width.{Width}
 use Rattle.rz_num.specs.declared.width.Width.TheVariants.{W8, W16, W32, W64}
 use Rattle.rz_isa.specs.declared.rows.F3Rule.{F3Rule}
 use Rattle.rz_isa.specs.declared.rows.F3Rule.TheVariants as f3s
 use Rattle.rz_isa.specs.declared.rows.Size.{Size}
 use Rattle.rz_isa.specs.declared.rows.Size.TheVariants as sizes
-use Rattle.rz_isa.specs.declared.rows.OpMap.{OpMap}
-use Rattle.rz_isa.specs.declared.rows.OpMap.TheVariants as maps
 use Rattle.rz_isa.specs.declared.rows.RmRule.{RmRule}
 use Rattle.rz_isa.specs.declared.rows.RmRule.TheVariants as rules
-use Rattle.rz_isa.specs.declared.rows.ImmKind.{ImmKind}
-use Rattle.rz_isa.specs.declared.rows.ImmKind.TheVariants as imms
 use Rattle.rz_isa.specs.declared.rows.Row.{Row}
 use Rattle.rz_isa.specs.declared.instruction.Reg.{Reg}
 use Rattle.rz_isa.specs.declared.instruction.Reg.TheVariants as regs
-use Rattle.rz_isa.specs.declared.instruction.Mem.{Mem}
 use Rattle.rz_isa.specs.declared.instruction.Place.{Place}
 use Rattle.rz_isa.specs.declared.instruction.Place.TheVariants as places
 use Rattle.rz_isa.specs.declared.spelled.Fields.{Fields}
 use Rattle.rz_isa.specs.Number.{are_bytes}
-use Rattle.rz_isa.specs.Spelling.{Parts, bytes_of, rex_bytes, escape, times, most_66, takes_66, most, prefixes_fit, f3_demand, is_rex, rex_fits, rex_low, bit_w, bit_r, bit_x, bit_b, is_met, w_demand, b_demand, opcode_fits, rm_fits, rule_fits, rm_len, second, width_of, imm_len, Fits, SpelledBy}
-use Rattle.rz_isa.specs.Fields.{reg_of, is_rep, place_of, rm_place, rm_width, reg_field, reg_number, imm_of, rep_of, fields}
-use Rattle.rz_isa.specs.Having.{is_byte, is_wide, is_half, has_width, code_of, is_register, is_first, is_high, is_low_byte, in_reg_field, in_opcode, has_reg, is_number, is_index, is_disp, is_memory, names_register, names_memory, is_first_place, has_place, has_cond, has_imm, has_rep, number_in, w_needed, r_needed, x_needed, place_b, b_needed, rex_needed, low_byte_place, high_place, bars_rex, needs_rex, opcode_of, can_have}
-use Rattle.rz_isa.specs.Canonical.{little, stands_f3, prefixes_for, rex_for, place_bytes, reg_bits, rm_bytes, imm_value, parts_for, place_reaches, imm_reaches, reaches}
-use Rattle.rz_isa.specs.Regular.{is_block, digit_small, rule_small, is_regular}
+use Rattle.rz_isa.specs.Spelling.{times, most_66, takes_66, prefixes_fit, f3_demand, is_rex, rex_fits, bit_w, bit_r, bit_x, bit_b, is_met, w_demand, rm_fits, rule_fits, rm_len, second, width_of}
+use Rattle.rz_isa.specs.Fields.{reg_of, is_rep, place_of, rm_place, rm_width, reg_field, reg_number, rep_of}
+use Rattle.rz_isa.specs.Having.{is_wide, is_half, has_width, code_of, is_register, is_first, is_high, is_low_byte, in_reg_field, in_opcode, has_reg, is_number, is_index, is_disp, names_register, names_memory, is_first_place, has_place, has_rep, number_in, w_needed, r_needed, x_needed, place_b, b_needed, rex_needed, low_byte_place, high_place, needs_rex}
+use Rattle.rz_isa.specs.Canonical.{stands_f3, prefixes_for, rex_for, place_bytes, reg_bits, rm_bytes, place_reaches}
+use Rattle.rz_isa.specs.Regular.{digit_small, rule_small}
 use Rattle.rz_isa.proofs.Built.{first_is}
-use Rattle.rz_isa.proofs.Again.{Had, had_of}
-use Rattle.rz_isa.proofs.Inverse.{IsRegular, regular_of}
-use Rattle.rz_isa.proofs.Complete.{if_true, if_false, if_both, eight_aligned}
-use Rattle.rz_isa.proofs.Read.{little_bytes, little_length}
-use Rattle.rz_isa.proofs.Sound.{imm_again, is_reg_place, PlaceRead, read_register, read_absolute, read_memory}
+use Rattle.rz_isa.proofs.Again.{Had}
+use Rattle.rz_isa.proofs.Complete.{if_true, if_false, if_both}
+use Rattle.rz_isa.proofs.Sound.{is_reg_place, PlaceRead, read_register, read_absolute, read_memory}
 
 -- The canonical parts fit their row, and they are read as the fields.
 

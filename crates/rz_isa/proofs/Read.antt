@@ -1,15 +1,11 @@
-use Rattle.std.proofs.Common.{ℕ, zero, suc, ℤ, pos, negsuc, ◌≡◌, ◌≢◌, ◌+◌, ◌-◌, ◌*◌, ◌/◌, ◌%◌, ◌^◌, ◌<◌, ◌≤◌, ◌==◌, ◌-ℤ◌, refl, ap, sym, ◌∙◌, subst, arith, List, [], ◌∷◌, ◌++◌, length, Bool, true, false, not, ◌&&◌, ◌||◌, ◌⊎◌, inl, inr, Option, Some, None}
-use Rattle.std.specs.Prelude.{nat_lt, nat_le, if◌then◌else◌}
-use Rattle.std.proofs.lemmas.Bool.{cases_Bool}
+use Rattle.std.proofs.Common.{ℕ, zero, suc, ℤ, pos, negsuc, ◌≡◌, ◌≢◌, ◌+◌, ◌-◌, ◌*◌, ◌/◌, ◌%◌, ◌^◌, ◌<◌, ◌==◌, ◌-ℤ◌, refl, ap, ◌∙◌, arith, List, length, Bool, true, false, not, ◌&&◌}
+use Rattle.std.specs.Prelude.{nat_lt, if◌then◌else◌}
 use Rattle.std.proofs.lemmas.Bool.Decides.{nat_tests}
-use Rattle.rz_num.specs.declared.width.Width.{Width}
-use Rattle.rz_num.specs.declared.width.Width.TheVariants.{W8, W16, W32, W64}
-use Rattle.rz_num.specs.Width.{size}
-use Rattle.rz_isa.specs.Number.{are_bytes, number, numbers, is_positive, signed, extended, displaced_by}
+use Rattle.rz_isa.specs.Number.{are_bytes, number, numbers, signed, extended, displaced_by}
 use Rattle.rz_isa.specs.Having.{is_disp, is_extended}
 use Rattle.rz_isa.specs.Canonical.{little, low_32, offset, is_zero, is_small, mode_of, disp_bytes}
 use Rattle.rz_isa.proofs.Numbers.{minus_is}
-use Rattle.rz_isa.proofs.Complete.{if_true, if_false, if_both}
+use Rattle.rz_isa.proofs.Complete.{if_both}
 
 -- Numbers that were written are read again.
 

@@ -1,6 +1,5 @@
-use Rattle.std.proofs.Common.{ℕ, zero, suc, ◌≡◌, ◌≢◌, ◌+◌, ◌-◌, ◌*◌, ◌/◌, ◌%◌, ◌^◌, ◌<◌, ◌≤◌, ◌==◌, refl, ap, sym, ◌∙◌, subst, arith, List, [], ◌∷◌, ◌++◌, length, Bool, true, false, not, ◌&&◌, ◌||◌, inl, inr, Option, Some, None, length-append}
+use Rattle.std.proofs.Common.{ℕ, ◌≡◌, ◌+◌, ◌/◌, ◌%◌, ◌^◌, ◌<◌, ◌≤◌, ◌==◌, refl, ap, sym, ◌∙◌, subst, arith, List, [], ◌∷◌, ◌++◌, length, Bool, true, false, not, ◌&&◌, inl, inr, Option, Some, None, length-append}
 use Rattle.std.specs.Prelude.{nat_lt, nat_le, is_some, if◌then◌else◌}
-use Rattle.std.specs.List.{list_all}
 use Rattle.std.proofs.lemmas.Bool.{cases_Bool}
 use Rattle.std.proofs.lemmas.Bool.Decides.{nat_tests}
 use Rattle.std.proofs.lemmas.Grind.{common_steps}
@@ -13,16 +12,14 @@ use Rattle.rz_isa.specs.declared.rows.RmRule.TheVariants as rules
 use Rattle.rz_isa.specs.declared.rows.ImmKind.{ImmKind}
 use Rattle.rz_isa.specs.declared.rows.ImmKind.TheVariants as imms
 use Rattle.rz_isa.specs.declared.rows.Row.{Row}
-use Rattle.rz_isa.specs.declared.instruction.Reg.{Reg}
-use Rattle.rz_isa.specs.declared.instruction.Reg.TheVariants as regs
 use Rattle.rz_isa.specs.declared.instruction.Place.{Place}
 use Rattle.rz_isa.specs.declared.instruction.Place.TheVariants as places
 use Rattle.rz_isa.specs.declared.spelled.Fields.{Fields}
 use Rattle.rz_isa.specs.Number.{are_bytes}
-use Rattle.rz_isa.specs.Spelling.{Parts, bytes_of, rex_bytes, escape, times, is_met, b_demand, w_demand, bit_w, bit_b, opcode_fits, rm_fits, rm_len, disp_len, second, width_of, width_at, imm_len, rex_fits, is_rex, Fits, SpelledBy}
+use Rattle.rz_isa.specs.Spelling.{Parts, bytes_of, rex_bytes, escape, is_met, b_demand, w_demand, opcode_fits, rm_fits, rm_len, disp_len, second, width_at, imm_len, rex_fits, Fits, SpelledBy}
 use Rattle.rz_isa.specs.Fields.{reg_of, rm_place, rm_width, reg_number, imm_of, rep_of, fields}
-use Rattle.rz_isa.specs.Having.{code_of, in_opcode, has_cond, has_imm, is_first, is_first_place, has_place, is_half, opcode_of, b_needed, w_needed, is_extended, can_have}
-use Rattle.rz_isa.specs.Canonical.{little, offset, stands_f3, prefixes_for, rex_for, rm_bytes, imm_value, parts_for, place_reaches, imm_reaches, reaches}
+use Rattle.rz_isa.specs.Having.{code_of, in_opcode, has_cond, has_imm, has_place, is_half, opcode_of, is_extended, can_have}
+use Rattle.rz_isa.specs.Canonical.{offset, stands_f3, prefixes_for, rex_for, rm_bytes, imm_value, parts_for, place_reaches, imm_reaches, reaches}
 use Rattle.rz_isa.specs.Regular.{is_block, stands_alone, is_regular}
 use Rattle.rz_isa.specs.Spells.{CanHave}
 use Rattle.rz_isa.proofs.Again.{Had, had_of}
@@ -30,7 +27,7 @@ use Rattle.rz_isa.proofs.Inverse.{IsRegular, regular_of}
 use Rattle.rz_isa.proofs.Complete.{if_true, if_false, if_both, eight_aligned, disp_short, fields_had}
 use Rattle.rz_isa.proofs.Read.{little_bytes, little_length}
 use Rattle.rz_isa.proofs.Sound.{imm_again}
-use Rattle.rz_isa.proofs.Parts.{prefixes_ok, times_66, times_f3, rep_again, w_is, width_read, bits, reg_field_suits, place_suits, RmRead, RmGiven, rm_read}
+use Rattle.rz_isa.proofs.Parts.{prefixes_ok, times_f3, rep_again, w_is, width_read, bits, reg_field_suits, place_suits, RmGiven, rm_read}
 
 -- The canonical parts of fields are spelled by their row and read as the fields.
 

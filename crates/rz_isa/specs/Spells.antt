@@ -1,4 +1,4 @@
-use Rattle.std.specs.Prelude.{ℕ, ◌≡◌, ◌≢◌, ◌+◌, ◌%◌, ◌^◌, ◌<◌, List, [], ◌++◌, length, Option, Some, slice_get}
+use Rattle.std.specs.Prelude.{ℕ, ◌≡◌, ◌≢◌, ◌+◌, ◌%◌, ◌^◌, ◌<◌, List, [], ◌++◌, length, Some, slice_get}
 use Rattle.rz_isa.specs.declared.rows.Row.{Row}
 use Rattle.rz_isa.specs.declared.instruction.Insn.{Insn}
 use Rattle.rz_isa.specs.declared.spelled.Fields.{Fields}
