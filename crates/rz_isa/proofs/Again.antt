@@ -1,0 +1,334 @@
+use Rattle.std.proofs.Common.{ℕ, zero, suc, ◌≡◌, ◌+◌, ◌/◌, ◌%◌, ◌^◌, ◌<◌, ◌==◌, refl, ap, sym, ◌∙◌, subst, arith, Bool, true, not, ◌&&◌, ◌||◌, ◌⊎◌, inl, inr, Option, Some, None}
+use Rattle.std.specs.Prelude.{if◌then◌else◌}
+use Rattle.std.specs.Option.{option_and_then}
+use Rattle.std.proofs.lemmas.Bool.{cases_Bool}
+use Rattle.std.proofs.lemmas.Bool.Decides.{nat_tests}
+use Rattle.rz_num.specs.declared.width.Width.{Width}
+use Rattle.rz_num.specs.declared.width.Width.TheVariants.{W8, W64}
+use Rattle.rz_flags.specs.Cond.{cond_of, number_of as number_of_cond}
+use Rattle.rz_isa.specs.declared.rows.OpMap.{OpMap}
+use Rattle.rz_isa.specs.declared.rows.OpMap.TheVariants as maps
+use Rattle.rz_isa.specs.declared.rows.F3Rule.{F3Rule}
+use Rattle.rz_isa.specs.declared.rows.F3Rule.TheVariants as f3s
+use Rattle.rz_isa.specs.declared.rows.Size.{Size}
+use Rattle.rz_isa.specs.declared.rows.Size.TheVariants as sizes
+use Rattle.rz_isa.specs.declared.rows.RmRule.{RmRule}
+use Rattle.rz_isa.specs.declared.rows.RmRule.TheVariants as rules
+use Rattle.rz_isa.specs.declared.rows.Row.{Row}
+use Rattle.rz_isa.specs.declared.rows.Letter.{Letter}
+use Rattle.rz_isa.specs.declared.rows.Letter.TheVariants as letters
+use Rattle.rz_isa.specs.declared.rows.Op.{Op}
+use Rattle.rz_isa.specs.declared.rows.Op.TheVariants as ops
+use Rattle.rz_isa.specs.declared.instruction.Reg.TheVariants as regs
+use Rattle.rz_isa.specs.declared.spelled.Fields.{Fields}
+use Rattle.rz_isa.specs.Spelling.{is_met, b_demand}
+use Rattle.rz_isa.specs.Fields.{build_op, letter_width, rm_width, is_rep, place_at, operand_at, reg_at, number_of, number_at, count_at, index_at}
+use Rattle.rz_isa.specs.Having.{has_width, has_reg, has_place, has_cond, has_imm, has_rep, bars_rex, needs_rex, in_opcode, opcode_of, b_needed, place_b, code_of, can_have}
+use Rattle.rz_isa.specs.Finding.{least_width, least_place, least, with_place, with_operand, with_reg, with_number, with_count, with_index, same_truth, same_width, same_arith, same_unary, same_wide, same_shift, same_bit, same_scan, same_change, rep_byte, found_in}
+use Rattle.rz_isa.specs.Regular.{place_slot, reg_slot, is_single, width_suits, is_exchange}
+use Rattle.rz_isa.proofs.Equal.{same_width-refl, same_truth-refl, same_arith-refl, same_unary-refl, same_wide-refl, same_shift-refl, same_bit-refl, same_scan-refl, same_change-refl}
+use Rattle.rz_isa.proofs.Built.{with_place-step, with_number-step, w_kept, imm_small}
+
+-- ---- fields that are those of others or the least that a row has
+
+pub record Below (row : Row) (g f : Fields) : Type 0 where
+  pub w : (g.w ≡ f.w) ⊎ (g.w ≡ least_width row.size)
+  pub reg : (g.reg ≡ f.reg) ⊎ ((g.reg ≡ regs.R (number_of f.reg)) ⊎ (g.reg ≡ regs.R 0))
+  pub rm : (g.rm ≡ f.rm) ⊎ (g.rm ≡ least_place row.rm)
+  pub cond : (g.cond ≡ f.cond) ⊎ (g.cond ≡ 0)
+  pub imm : ((g.imm ≡ f.imm) × (g.w ≡ f.w)) ⊎ (g.imm ≡ 0)
+  pub rep : (g.rep ≡ f.rep) ⊎ (g.rep ≡ 0)
+
+pub least_below : (row : Row) (f : Fields) → Below row (least row) f
+least_below row f = record { w = inr refl; reg = inr (inr refl); rm = inr refl; cond = inr refl; imm = inr refl; rep = inr refl }
+
+-- the least fields with the width
+pub width_below : (row : Row) (f : Fields) → Below row (record (least row) { w = f.w }) f
+width_below row f = record { w = inl refl; reg = inr (inr refl); rm = inr refl; cond = inr refl; imm = inr refl; rep = inr refl }
+
+-- ---- each step finds what was there
+
+abbrev pub Step : Row → Fields → Option Fields → Type 0
+Step row f o = (g : Fields) × ((o ≡ Some g) × Below row g f)
+
+reg_below : (row : Row) (f b : Fields) → Below row b f → Below row (record b { reg = f.reg }) f
+reg_below row f b h = record { w = h.w; reg = inl refl; rm = h.rm; cond = h.cond; imm = h.imm; rep = h.rep }
+
+number_below : (row : Row) (f b : Fields) → Below row b f → Below row (record b { reg = regs.R (number_of f.reg) }) f
+number_below row f b h = record { w = h.w; reg = inr (inl refl); rm = h.rm; cond = h.cond; imm = h.imm; rep = h.rep }
+
+rm_below : (row : Row) (f b : Fields) → Below row b f → Below row (record b { rm = f.rm }) f
+rm_below row f b h = record { w = h.w; reg = h.reg; rm = inl refl; cond = h.cond; imm = h.imm; rep = h.rep }
+
+imm_below : (row : Row) (f b : Fields) (n : ℕ) → n ≡ f.imm → b.w ≡ f.w → Below row b f → Below row (record b { imm = n }) f
+imm_below row f b n e w h = record { w = h.w; reg = h.reg; rm = h.rm; cond = h.cond; imm = inl (e, w); rep = h.rep }
+
+pub place_again : (row : Row) (l : Letter) (f b : Fields) → Below row b f → Step row f (with_place l (place_at l f) b)
+place_again row letters.G f b h = (record b { reg = f.reg }, (refl, reg_below row f b h))
+place_again row letters.O f b h = (record b { reg = f.reg }, (refl, reg_below row f b h))
+place_again row letters.A f b h = (b, (refl, h))
+place_again row _ f b h = (record b { rm = f.rm }, (refl, rm_below row f b h))
+
+pub operand_again : (row : Row) (l : Letter) (f b : Fields) → b.w ≡ f.w → Below row b f → Step row f (with_operand l (operand_at l f) b)
+operand_again row letters.Imm f b w h = (record b { imm = f.imm }, (refl, imm_below row f b f.imm refl w h))
+operand_again row letters.G f b w h = place_again row letters.G f b h
+operand_again row letters.O f b w h = place_again row letters.O f b h
+operand_again row letters.A f b w h = place_again row letters.A f b h
+operand_again row _ f b w h = (record b { rm = f.rm }, (refl, rm_below row f b h))
+
+pub reg_again : (row : Row) (l : Letter) (f b : Fields) → Below row b f → Step row f (with_reg l (reg_at l f) b)
+reg_again row letters.A f b h = (b, (refl, h))
+reg_again row _ f b h = (record b { reg = f.reg }, (refl, reg_below row f b h))
+
+pub number_again : (row : Row) (l : Letter) (f b : Fields) → Below row b f → Step row f (with_number l (number_at l f) b)
+number_again row letters.A f b h = (b, (refl, h))
+number_again row _ f b h = (record b { reg = regs.R (number_of f.reg) }, (refl, number_below row f b h))
+
+small_is : (n : ℕ) → n < 2 ^ 8 → n % 2 ^ 8 ≡ n
+small_is n lt = omega arith
+
+pub count_again : (row : Row) (l : Letter) (f b : Fields) → f.imm < 2 ^ 8 → b.w ≡ f.w → Below row b f → Step row f (with_count l (count_at l f) b)
+count_again row letters.One f b small w h = (b, (refl, h))
+count_again row letters.Cl f b small w h = (b, (refl, h))
+count_again row _ f b small w h = (record b { imm = f.imm % 2 ^ 8 }, (refl, imm_below row f b (f.imm % 2 ^ 8) (small_is f.imm small) w h))
+
+pub index_again : (row : Row) (l : Letter) (f b : Fields) → f.imm < 2 ^ 8 → b.w ≡ f.w → Below row b f → Step row f (with_index l (index_at l f) b)
+index_again row letters.Imm f b small w h = (record b { imm = f.imm % 2 ^ 8 }, (refl, imm_below row f b (f.imm % 2 ^ 8) (small_is f.imm small) w h))
+index_again row letters.A f b small w h = (b, (refl, h))
+index_again row _ f b small w h = (record b { reg = regs.R (number_of f.reg) }, (refl, number_below row f b h))
+
+-- ---- two steps
+
+then_some : (o : Option Fields) (k : Fields → Option Fields) (m : Fields) → o ≡ Some m → option_and_then k o ≡ k m
+then_some o k m e = ap (option_and_then k) e
+
+pub place_operand_again : (row : Row) (d s : Letter) (f b : Fields) → b.w ≡ f.w → Below row b f → Step row f (option_and_then (with_operand s (operand_at s f)) (with_place d (place_at d f) b))
+place_operand_again row d s f b w h =
+    let m = place_again row d f b h in
+    let mw = w_kept (place_slot d) b m.0 (with_place-step d (place_at d f) b m.0 m.1.0).1 in
+    let g = operand_again row s f m.0 (mw ∙ w) m.1.1 in
+    (g.0, (then_some _ (with_operand s (operand_at s f)) m.0 m.1.0 ∙ g.1.0, g.1.1))
+
+pub number_place_again : (row : Row) (d s : Letter) (f b : Fields) → Below row b f → Step row f (option_and_then (with_place s (place_at s f)) (with_number d (number_at d f) b))
+number_place_again row d s f b h =
+    let m = number_again row d f b h in
+    let g = place_again row s f m.0 m.1.1 in
+    (g.0, (then_some _ (with_place s (place_at s f)) m.0 m.1.0 ∙ g.1.0, g.1.1))
+
+pub place_reg_again : (row : Row) (d s : Letter) (f b : Fields) → Below row b f → Step row f (option_and_then (with_reg s (reg_at s f)) (with_place d (place_at d f) b))
+place_reg_again row d s f b h =
+    let m = place_again row d f b h in
+    let g = reg_again row s f m.0 m.1.1 in
+    (g.0, (then_some _ (with_reg s (reg_at s f)) m.0 m.1.0 ∙ g.1.0, g.1.1))
+
+pub place_count_again : (row : Row) (d c : Letter) (f b : Fields) → f.imm < 2 ^ 8 → b.w ≡ f.w → Below row b f → Step row f (option_and_then (with_count c (count_at c f)) (with_place d (place_at d f) b))
+place_count_again row d c f b small w h =
+    let m = place_again row d f b h in
+    let mw = w_kept (place_slot d) b m.0 (with_place-step d (place_at d f) b m.0 m.1.0).1 in
+    let g = count_again row c f m.0 small (mw ∙ w) m.1.1 in
+    (g.0, (then_some _ (with_count c (count_at c f)) m.0 m.1.0 ∙ g.1.0, g.1.1))
+
+pub place_index_again : (row : Row) (d i : Letter) (f b : Fields) → f.imm < 2 ^ 8 → b.w ≡ f.w → Below row b f → Step row f (option_and_then (with_index i (index_at i f)) (with_place d (place_at d f) b))
+place_index_again row d i f b small w h =
+    let m = place_again row d f b h in
+    let mw = w_kept (place_slot d) b m.0 (with_place-step d (place_at d f) b m.0 m.1.0).1 in
+    let g = index_again row i f m.0 small (mw ∙ w) m.1.1 in
+    (g.0, (then_some _ (with_index i (index_at i f)) m.0 m.1.0 ∙ g.1.0, g.1.1))
+
+pub place_number_count_again : (row : Row) (d s c : Letter) (f b : Fields) → f.imm < 2 ^ 8 → b.w ≡ f.w → Below row b f
+    → Step row f (option_and_then (with_count c (count_at c f)) (option_and_then (with_number s (number_at s f)) (with_place d (place_at d f) b)))
+place_number_count_again row d s c f b small w h =
+    let m = place_again row d f b h in
+    let mw = w_kept (place_slot d) b m.0 (with_place-step d (place_at d f) b m.0 m.1.0).1 in
+    let k = number_again row s f m.0 m.1.1 in
+    let kw = w_kept (reg_slot s) m.0 k.0 (with_number-step s (number_at s f) m.0 k.0 k.1.0).1 in
+    let e = then_some _ (with_number s (number_at s f)) m.0 m.1.0 ∙ k.1.0 in
+    let g = count_again row c f k.0 small (kw ∙ (mw ∙ w)) k.1.1 in
+    (g.0, (then_some _ (with_count c (count_at c f)) k.0 e ∙ g.1.0, g.1.1))
+
+-- ---- the other fields
+
+pub cond_back : (n : ℕ) → n < 16 → number_of_cond (cond_of (n % 16)) ≡ n
+cond_back zero lt = refl
+cond_back (suc zero) lt = refl
+cond_back (suc (suc zero)) lt = refl
+cond_back (suc (suc (suc zero))) lt = refl
+cond_back (suc (suc (suc (suc zero)))) lt = refl
+cond_back (suc (suc (suc (suc (suc zero))))) lt = refl
+cond_back (suc (suc (suc (suc (suc (suc zero)))))) lt = refl
+cond_back (suc (suc (suc (suc (suc (suc (suc zero))))))) lt = refl
+cond_back (suc (suc (suc (suc (suc (suc (suc (suc zero)))))))) lt = refl
+cond_back (suc (suc (suc (suc (suc (suc (suc (suc (suc zero))))))))) lt = refl
+cond_back (suc (suc (suc (suc (suc (suc (suc (suc (suc (suc zero)))))))))) lt = refl
+cond_back (suc (suc (suc (suc (suc (suc (suc (suc (suc (suc (suc zero))))))))))) lt = refl
+cond_back (suc (suc (suc (suc (suc (suc (suc (suc (suc (suc (suc (suc zero)))))))))))) lt = refl
+cond_back (suc (suc (suc (suc (suc (suc (suc (suc (suc (suc (suc (suc (suc zero))))))))))))) lt = refl
+cond_back (suc (suc (suc (suc (suc (suc (suc (suc (suc (suc (suc (suc (suc (suc zero)))))))))))))) lt = refl
+cond_back (suc (suc (suc (suc (suc (suc (suc (suc (suc (suc (suc (suc (suc (suc (suc zero))))))))))))))) lt = refl
+cond_back (suc (suc (suc (suc (suc (suc (suc (suc (suc (suc (suc (suc (suc (suc (suc (suc n)))))))))))))))) lt = absurd (omega arith)
+
+cond_low : (span n : ℕ) → has_cond span n ≡ true → n < 16
+cond_low span n h = grind (arith, nat_tests)
+
+pub cond_found : (span n : ℕ) → has_cond span n ≡ true → number_of_cond (cond_of (n % 16)) ≡ n
+cond_found span n h = cond_back n (cond_low span n h)
+
+rep_or : (n : ℕ) → (n == 0 || n == 0xf3) ≡ true → rep_byte (is_rep n) ≡ n
+rep_or n h = grind (arith, nat_tests)
+
+pub rep_found : (r : F3Rule) (n : ℕ) → has_rep r n ≡ true → rep_byte (is_rep n) ≡ n
+rep_found f3s.Repeats n h = rep_or n h
+rep_found _ n h = grind (arith, nat_tests)
+
+pub single_width : (c : Size) (w : Width) → is_single c ≡ true → has_width c w ≡ true → least_width c ≡ w
+single_width sizes.B W8 s h = refl
+single_width sizes.Q W64 s h = refl
+single_width sizes.WQ W64 s h = refl
+single_width sizes.N W8 s h = refl
+single_width _ _ s h = absurd (cc)
+
+-- ---- the tests of a row's fields, one by one
+
+pub record Had (row : Row) (f : Fields) : Type 0 where
+  pub w : has_width row.size f.w ≡ true
+  pub reg : has_reg row f.w f.reg ≡ true
+  pub rm : has_place row.rm (rm_width row.op f.w) f.rm ≡ true
+  pub cond : has_cond row.span f.cond ≡ true
+  pub imm : has_imm row.imm f.w f.imm ≡ true
+  pub rep : has_rep row.f3 f.rep ≡ true
+  pub rex : not (bars_rex f && needs_rex row f) ≡ true
+  pub b : is_met (b_demand row.op row.map (opcode_of row f)) (b_needed row f) ≡ true
+
+pub record Eight (a b c d e f g h : Bool) : Type 0 where
+  pub one : a ≡ true
+  pub two : b ≡ true
+  pub three : c ≡ true
+  pub four : d ≡ true
+  pub five : e ≡ true
+  pub six : f ≡ true
+  pub seven : g ≡ true
+  pub eight : h ≡ true
+
+pub eight : (a b c d e f g h : Bool) → (a && b && c && d && e && f && g && h) ≡ true → Eight a b c d e f g h
+eight a b c d e f g h x = record { one = grind arith; two = grind arith; three = grind arith; four = grind arith; five = grind arith; six = grind arith; seven = grind arith; eight = grind arith }
+
+pub all_eight : (a b c d e f g h : Bool) → a ≡ true → b ≡ true → c ≡ true → d ≡ true → e ≡ true → f ≡ true → g ≡ true → h ≡ true → (a && b && c && d && e && f && g && h) ≡ true
+all_eight a b c d e f g h ea eb ec ed ee ef eg eh = grind arith
+
+pub had_of : (row : Row) (f : Fields) → can_have row f ≡ true → Had row f
+had_of row f h =
+    let e = eight (has_width row.size f.w) (has_reg row f.w f.reg) (has_place row.rm (rm_width row.op f.w) f.rm) (has_cond row.span f.cond) (has_imm row.imm f.w f.imm) (has_rep row.f3 f.rep)
+    (not (bars_rex f && needs_rex row f)) (is_met (b_demand row.op row.map (opcode_of row f)) (b_needed row f)) h in
+    record { w = e.one; reg = e.two; rm = e.three; cond = e.four; imm = e.five; rep = e.six; rex = e.seven; b = e.eight }
+
+pub can_of : (row : Row) (f : Fields) → Had row f → can_have row f ≡ true
+can_of row f h = all_eight _ _ _ _ _ _ _ _ h.w h.reg h.rm h.cond h.imm h.rep h.rex h.b
+
+-- ---- REX.B of what is found
+
+nop_met : (m : OpMap) (o n : ℕ) → n ≡ 0 → is_met (b_demand ops.Nop m o) n ≡ true
+nop_met maps.Two o n e = refl
+nop_met maps.One o n e = elim (cases_Bool (o == 0x90)) [ inl y ↦ grind (arith, nat_tests) | inr k ↦ grind (arith, nat_tests) ]
+
+least_place_b : (r : Option RmRule) → place_b (least_place r) ≡ 0
+least_place_b None = refl
+least_place_b (Some rules.Any) = refl
+least_place_b (Some rules.MemoryOnly) = refl
+least_place_b (Some rules.RegisterOnly) = refl
+least_place_b (Some (rules.Fixed b)) = refl
+
+least_b : (row : Row) → b_needed row (least row) ≡ 0
+least_b row = elim (cases_Bool (in_opcode row.rm row.span)) [
+  | inl y ↦ ap (λ k. if k then 0 else place_b (least_place row.rm)) y
+  | inr n ↦ ap (λ k. if k then 0 else place_b (least_place row.rm)) n ∙ least_place_b row.rm
+]
+
+-- the exchange with the accumulator takes its register from the opcode
+exchange_met : (row : Row) (f g : Fields) (op : Op) → in_opcode row.rm row.span ≡ true → g.reg ≡ f.reg → is_met (b_demand op row.map (opcode_of row f)) (b_needed row f) ≡ true
+    → is_met (b_demand op row.map (opcode_of row g)) (b_needed row g) ≡ true
+exchange_met row f g op at reg met =
+    let o : opcode_of row g ≡ opcode_of row f = ap (λ k. row.opcode + (if k then code_of g.reg % 8 else g.cond)) at ∙ (ap (λ r. row.opcode + code_of r % 8) reg ∙ sym (ap (λ k. row.opcode + (if k then code_of f.reg % 8 else f.cond)) at)) in
+    let b : b_needed row g ≡ b_needed row f = ap (λ k. if k then code_of g.reg / 8 else place_b g.rm) at ∙ (ap (λ r. code_of r / 8) reg ∙ sym (ap (λ k. if k then code_of f.reg / 8 else place_b f.rm) at)) in
+    subst (λ x. is_met (b_demand op row.map x) (b_needed row g) ≡ true) (sym o) (subst (λ x. is_met (b_demand op row.map (opcode_of row f)) x ≡ true) (sym b) met)
+
+-- ---- what builds an instruction is found again
+
+pub record Again (op : Op) (row : Row) (f : Fields) : Type 0 where
+  pub g : Fields
+  pub found : found_in op (build_op op f) (least row) ≡ Some g
+  pub below : Below row g f
+  pub b : is_met (b_demand op row.map (opcode_of row g)) (b_needed row g) ≡ true
+
+pub record Asked (op : Op) (row : Row) (f : Fields) : Type 0 where
+  pub w : has_width row.size f.w ≡ true
+  pub cond : has_cond row.span f.cond ≡ true
+  pub rep : has_rep row.f3 f.rep ≡ true
+  pub small : imm_small op f.imm
+  pub single : width_suits op row.size ≡ true
+  pub exchange : is_exchange op ≡ true → in_opcode row.rm row.span ≡ true
+  pub b : is_met (b_demand op row.map (opcode_of row f)) (b_needed row f) ≡ true
+
+when_true : (b : Bool) (o : Option Fields) → b ≡ true → (if b then o else None) ≡ o
+when_true b o e = ap (λ k. if k then o else None) e
+
+single : (op : Op) (row : Row) (f : Fields) → is_single row.size ≡ true → has_width row.size f.w ≡ true → least_width row.size ≡ f.w
+single op row f s h = single_width row.size f.w s h
+
+cut16 : (n : ℕ) → n < 2 ^ 16 → n % 2 ^ 16 ≡ n
+cut16 n lt = omega arith
+
+target_below : (row : Row) (f b : Fields) → b.w ≡ f.w → Below row b f → Below row (record b { imm = f.imm }) f
+target_below row f b w h = imm_below row f b f.imm refl w h
+
+cond_below : (row : Row) (f b : Fields) (n : ℕ) → n ≡ f.cond → Below row b f → Below row (record b { cond = n }) f
+cond_below row f b n e h = record { w = h.w; reg = h.reg; rm = h.rm; cond = inl e; imm = h.imm; rep = h.rep }
+
+rep_below : (row : Row) (f b : Fields) (n : ℕ) → n ≡ f.rep → Below row b f → Below row (record b { rep = n }) f
+rep_below row f b n e h = record { w = h.w; reg = h.reg; rm = h.rm; cond = h.cond; imm = h.imm; rep = inl e }
+
+pub again : (op : Op) (row : Row) (f : Fields) → Asked op row f → Again op row f
+again (ops.Arith o d s) row f h = let r = place_operand_again row d s f _ refl (width_below row f) in record { g = r.0; found = when_true (same_arith o o) _ (same_arith-refl o) ∙ r.1.0; below = r.1.1; b = refl }
+again (ops.Test d s) row f h = let r = place_operand_again row d s f _ refl (width_below row f) in record { g = r.0; found = r.1.0; below = r.1.1; b = refl }
+again (ops.Mov d s) row f h = let r = place_operand_again row d s f _ refl (width_below row f) in record { g = r.0; found = r.1.0; below = r.1.1; b = refl }
+again (ops.Lea d s) row f h = let r = number_place_again row d s f _ (width_below row f) in record { g = r.0; found = r.1.0; below = r.1.1; b = refl }
+again (ops.Extend o d s) row f h =
+    let r = number_place_again row d s f _ (width_below row f) in
+    let t = ap (λ k. k && same_width (letter_width s f.w) (letter_width s f.w)) (same_truth-refl o) ∙ same_width-refl (letter_width s f.w) in
+    record { g = r.0; found = when_true _ _ t ∙ r.1.0; below = r.1.1; b = refl }
+again (ops.Push s) row f h = let r = operand_again row s f (least row) (single (ops.Push s) row f h.single h.w) (least_below row f) in record { g = r.0; found = r.1.0; below = r.1.1; b = refl }
+again (ops.Pop d) row f h = let r = place_again row d f (least row) (least_below row f) in record { g = r.0; found = r.1.0; below = r.1.1; b = refl }
+again ops.Leave row f h = record { g = least row; found = refl; below = least_below row f; b = refl }
+again ops.PushFlags row f h = record { g = least row; found = refl; below = least_below row f; b = refl }
+again ops.PopFlags row f h = record { g = least row; found = refl; below = least_below row f; b = refl }
+again (ops.Unary o d) row f h = let r = place_again row d f _ (width_below row f) in record { g = r.0; found = when_true (same_unary o o) _ (same_unary-refl o) ∙ r.1.0; below = r.1.1; b = refl }
+again (ops.Wide o s) row f h = let r = place_again row s f _ (width_below row f) in record { g = r.0; found = when_true (same_wide o o) _ (same_wide-refl o) ∙ r.1.0; below = r.1.1; b = refl }
+again (ops.Imul2 d s) row f h = let r = number_place_again row d s f _ (width_below row f) in record { g = r.0; found = r.1.0; below = r.1.1; b = refl }
+again (ops.Imul3 d s i) row f h = let r = number_place_again row d s f _ (target_below row f _ refl (width_below row f)) in record { g = r.0; found = r.1.0; below = r.1.1; b = refl }
+again (ops.Shift o d c) row f h = let r = place_count_again row d c f _ h.small refl (width_below row f) in record { g = r.0; found = when_true (same_shift o o) _ (same_shift-refl o) ∙ r.1.0; below = r.1.1; b = refl }
+again (ops.DoubleShift o d s c) row f h = let r = place_number_count_again row d s c f _ h.small refl (width_below row f) in record { g = r.0; found = when_true (same_truth o o) _ (same_truth-refl o) ∙ r.1.0; below = r.1.1; b = refl }
+again (ops.Cmov d s) row f h = let r = number_place_again row d s f _ (cond_below row f _ _ (cond_found row.span f.cond h.cond) (width_below row f)) in record { g = r.0; found = r.1.0; below = r.1.1; b = refl }
+again (ops.Set d) row f h = let r = place_again row d f _ (cond_below row f _ _ (cond_found row.span f.cond h.cond) (least_below row f)) in record { g = r.0; found = r.1.0; below = r.1.1; b = refl }
+again ops.Jcc row f h = record { g = _; found = refl; below = target_below row f _ (single ops.Jcc row f h.single h.w) (cond_below row f _ _ (cond_found row.span f.cond h.cond) (least_below row f)); b = refl }
+again ops.Jrcxz row f h = record { g = _; found = refl; below = target_below row f _ (single ops.Jrcxz row f h.single h.w) (least_below row f); b = refl }
+again ops.Jmp row f h = record { g = _; found = refl; below = target_below row f _ (single ops.Jmp row f h.single h.w) (least_below row f); b = refl }
+again ops.Call row f h = record { g = _; found = refl; below = target_below row f _ (single ops.Call row f h.single h.w) (least_below row f); b = refl }
+again (ops.CallInd s) row f h = let r = place_again row s f (least row) (least_below row f) in record { g = r.0; found = r.1.0; below = r.1.1; b = refl }
+again (ops.JmpInd s) row f h = let r = place_again row s f (least row) (least_below row f) in record { g = r.0; found = r.1.0; below = r.1.1; b = refl }
+again ops.Ret row f h = record { g = _; found = refl; below = imm_below row f (least row) (f.imm % 2 ^ 16) (cut16 f.imm h.small) (single ops.Ret row f h.single h.w) (least_below row f); b = refl }
+again ops.Convert row f h = record { g = _; found = refl; below = width_below row f; b = refl }
+again ops.SignFill row f h = record { g = _; found = refl; below = width_below row f; b = refl }
+again ops.Nop row f h = record { g = least row; found = refl; below = least_below row f; b = nop_met row.map (opcode_of row (least row)) (b_needed row (least row)) (least_b row) }
+again (ops.Bswap d) row f h = let r = number_again row d f _ (width_below row f) in record { g = r.0; found = r.1.0; below = r.1.1; b = refl }
+again (ops.BitTest o d i) row f h = let r = place_index_again row d i f _ h.small refl (width_below row f) in record { g = r.0; found = when_true (same_bit o o) _ (same_bit-refl o) ∙ r.1.0; below = r.1.1; b = refl }
+again (ops.Scan o d s) row f h = let r = number_place_again row d s f _ (width_below row f) in record { g = r.0; found = when_true (same_scan o o) _ (same_scan-refl o) ∙ r.1.0; below = r.1.1; b = refl }
+again ops.Movs row f h = record { g = _; found = refl; below = rep_below row f _ _ (rep_found row.f3 f.rep h.rep) (width_below row f); b = refl }
+again ops.Stos row f h = record { g = _; found = refl; below = rep_below row f _ _ (rep_found row.f3 f.rep h.rep) (width_below row f); b = refl }
+again (ops.Flag o) row f h = record { g = least row; found = when_true (same_change o o) _ (same_change-refl o); below = least_below row f; b = refl }
+again ops.Syscall row f h = record { g = least row; found = refl; below = least_below row f; b = refl }
+again ops.Ud2 row f h = record { g = least row; found = refl; below = least_below row f; b = refl }
+again ops.Hlt row f h = record { g = least row; found = refl; below = least_below row f; b = refl }
+again ops.Int3 row f h = record { g = least row; found = refl; below = least_below row f; b = refl }
+again (ops.Xchg letters.O letters.A) row f h =
+    let g : Fields = record (least row) { w = f.w; reg = f.reg } in
+    record { g = g; found = refl; below = reg_below row f _ (width_below row f); b = exchange_met row f g (ops.Xchg letters.O letters.A) (h.exchange refl) refl h.b }
+again (ops.Xchg d s) row f h = let r = place_reg_again row d s f _ (width_below row f) in record { g = r.0; found = r.1.0; below = r.1.1; b = refl }

@@ -1,0 +1,378 @@
+use Rattle.std.proofs.Common.{ℕ, ◌≡◌, ◌%◌, ◌^◌, ◌<◌, ◌==◌, refl, ap, sym, ◌∙◌, arith, Bool, true, false, ◌&&◌, Option, Some, None}
+use Rattle.std.specs.Prelude.{⊤, if◌then◌else◌}
+use Rattle.std.specs.Option.{option_and_then}
+use Rattle.std.proofs.lemmas.Bool.Decides.{nat_tests}
+use Rattle.std.proofs.lemmas.Option.{option_and_then_some}
+use Rattle.rz_flags.specs.declared.Cond.{Cond}
+use Rattle.rz_flags.specs.declared.Cond.TheVariants as conds
+use Rattle.rz_flags.specs.Cond.{cond_of, number_of as number_of_cond}
+use Rattle.rz_isa.specs.declared.rows.Letter.{Letter}
+use Rattle.rz_isa.specs.declared.rows.Letter.TheVariants as letters
+use Rattle.rz_isa.specs.declared.rows.Op.{Op}
+use Rattle.rz_isa.specs.declared.rows.Op.TheVariants as ops
+use Rattle.rz_isa.specs.declared.instruction.Insn.{Insn}
+use Rattle.rz_isa.specs.declared.instruction.Insn.TheVariants as insns
+use Rattle.rz_isa.specs.declared.instruction.Reg.{Reg}
+use Rattle.rz_isa.specs.declared.instruction.Reg.TheVariants as regs
+use Rattle.rz_isa.specs.declared.instruction.Place.{Place}
+use Rattle.rz_isa.specs.declared.instruction.Place.TheVariants as places
+use Rattle.rz_isa.specs.declared.instruction.Operand.{Operand}
+use Rattle.rz_isa.specs.declared.instruction.Operand.TheVariants as operands
+use Rattle.rz_isa.specs.declared.instruction.Count.{Count}
+use Rattle.rz_isa.specs.declared.instruction.Count.TheVariants as counts
+use Rattle.rz_isa.specs.declared.instruction.BitIndex.{BitIndex}
+use Rattle.rz_isa.specs.declared.instruction.BitIndex.TheVariants as indexes
+use Rattle.rz_isa.specs.declared.spelled.Fields.{Fields}
+use Rattle.rz_isa.specs.Fields.{build_op, letter_width, is_rep, place_at, operand_at, reg_at, number_of, number_at, count_at, index_at}
+use Rattle.rz_isa.specs.Having.{is_first}
+use Rattle.rz_isa.specs.Finding.{with_place, with_operand, with_reg, with_number, with_count, with_index, same_width, same_truth, same_arith, same_unary, same_wide, same_shift, same_bit, same_scan, same_change, rep_byte, found_in}
+use Rattle.rz_isa.proofs.Equal.{same_width-is, same_truth-is, same_arith-is, same_unary-is, same_wide-is, same_shift-is, same_bit-is, same_scan-is, same_change-is}
+use Rattle.rz_isa.specs.Regular.{Slot, nowhere, in_rm, in_reg, in_imm, place_slot, operand_slot, reg_slot, count_slot, index_slot, apart, operands_apart}
+
+-- ---- a step changes the field of its letter alone
+
+abbrev pub Kept : Slot → Fields → Fields → Type 0
+Kept nowhere f g = g ≡ f
+Kept in_rm f g = g ≡ record f { rm = g.rm }
+Kept in_reg f g = g ≡ record f { reg = g.reg }
+Kept in_imm f g = g ≡ record f { imm = g.imm }
+
+pub first_is : (r : Reg) → is_first r ≡ true → regs.R 0 ≡ r
+first_is (regs.R n) e = ap regs.R (grind (arith, nat_tests))
+first_is (regs.High n) e = absurd (cc)
+
+some_is : (f g : Fields) → Some f ≡ Some g → f ≡ g
+some_is f g e = cc
+
+-- what a test lets through
+pub through : (b : Bool) (f g : Fields) → (if b then Some f else None) ≡ Some g → (b ≡ true) × (f ≡ g)
+through true f g e = (refl, some_is f g e)
+through false f g e = absurd (cc)
+
+pub with_place-step : (l : Letter) (p : Place) (f g : Fields) → with_place l p f ≡ Some g → (place_at l g ≡ p) × Kept (place_slot l) f g
+with_place-step letters.G (places.Reg r) f g e = let s = some_is _ g e in (ap (λ (k : Fields). places.Reg k.reg) (sym s), sym s ∙ (λ i. record f { reg = (s i).reg }))
+with_place-step letters.G (places.Mem m) f g e = absurd (cc)
+with_place-step letters.G (places.At a) f g e = absurd (cc)
+with_place-step letters.O (places.Reg r) f g e = let s = some_is _ g e in (ap (λ (k : Fields). places.Reg k.reg) (sym s), sym s ∙ (λ i. record f { reg = (s i).reg }))
+with_place-step letters.O (places.Mem m) f g e = absurd (cc)
+with_place-step letters.O (places.At a) f g e = absurd (cc)
+with_place-step letters.A (places.Reg r) f g e = let t = through (is_first r) f g e in (ap places.Reg (first_is r t.0), sym t.1)
+with_place-step letters.A (places.Mem m) f g e = absurd (cc)
+with_place-step letters.A (places.At a) f g e = absurd (cc)
+with_place-step _ p f g e = let s = some_is _ g e in (ap (λ (k : Fields). k.rm) (sym s), sym s ∙ (λ i. record f { rm = (s i).rm }))
+
+pub with_operand-step : (l : Letter) (o : Operand) (f g : Fields) → with_operand l o f ≡ Some g → (operand_at l g ≡ o) × Kept (operand_slot l) f g
+with_operand-step letters.Imm (operands.Imm n) f g e = let s = some_is _ g e in (ap (λ (k : Fields). operands.Imm k.imm) (sym s), sym s ∙ (λ i. record f { imm = (s i).imm }))
+with_operand-step letters.Imm (operands.Place p) f g e = absurd (cc)
+with_operand-step l (operands.Place p) f g e = let t = with_place-step l p f g e in (ap operands.Place t.0, t.1)
+with_operand-step _ (operands.Imm n) f g e = absurd (cc)
+
+pub with_reg-step : (l : Letter) (r : Reg) (f g : Fields) → with_reg l r f ≡ Some g → (reg_at l g ≡ r) × Kept (reg_slot l) f g
+with_reg-step letters.A r f g e = let t = through (is_first r) f g e in (first_is r t.0, sym t.1)
+with_reg-step _ r f g e = let s = some_is _ g e in (ap (λ (k : Fields). k.reg) (sym s), sym s ∙ (λ i. record f { reg = (s i).reg }))
+
+pub with_number-step : (l : Letter) (n : ℕ) (f g : Fields) → with_number l n f ≡ Some g → (number_at l g ≡ n) × Kept (reg_slot l) f g
+with_number-step l n f g e = let t = with_reg-step l (regs.R n) f g e in (ap number_of t.0, t.1)
+
+one_is : (n : ℕ) → (n == 1) ≡ true → 1 ≡ n
+one_is n e = grind (arith, nat_tests)
+
+cut : (n k : ℕ) → k ≡ n → k < 2 ^ 8 → k % 2 ^ 8 ≡ n
+cut n k e lt = omega arith
+
+pub with_count-step : (l : Letter) (c : Count) (f g : Fields) → g.imm < 2 ^ 8 → with_count l c f ≡ Some g → (count_at l g ≡ c) × Kept (count_slot l) f g
+with_count-step letters.One (counts.Imm n) f g small e = let t = through (n == 1) f g e in (ap counts.Imm (one_is n t.0), sym t.1)
+with_count-step letters.One counts.Cl f g small e = absurd (cc)
+with_count-step letters.Cl (counts.Imm n) f g small e = absurd (cc)
+with_count-step letters.Cl counts.Cl f g small e = (refl, sym (some_is f g e))
+with_count-step _ (counts.Imm n) f g small e = let s = some_is _ g e in (ap counts.Imm (cut n g.imm (ap (λ (k : Fields). k.imm) (sym s)) small), sym s ∙ (λ i. record f { imm = (s i).imm }))
+with_count-step _ counts.Cl f g small e = absurd (cc)
+
+pub with_index-step : (l : Letter) (x : BitIndex) (f g : Fields) → g.imm < 2 ^ 8 → with_index l x f ≡ Some g → (index_at l g ≡ x) × Kept (index_slot l) f g
+with_index-step letters.Imm (indexes.Imm n) f g small e = let s = some_is _ g e in (ap indexes.Imm (cut n g.imm (ap (λ (k : Fields). k.imm) (sym s)) small), sym s ∙ (λ i. record f { imm = (s i).imm }))
+with_index-step letters.Imm (indexes.Reg n) f g small e = absurd (cc)
+with_index-step l (indexes.Reg n) f g small e = let t = with_number-step l n f g e in (ap indexes.Reg t.0, t.1)
+with_index-step _ (indexes.Imm n) f g small e = absurd (cc)
+
+-- ---- what another step leaves
+
+pub place_kept : (l : Letter) (t : Slot) (f g : Fields) → apart (place_slot l) t ≡ true → Kept t f g → place_at l g ≡ place_at l f
+place_kept letters.G in_reg f g a k = absurd (cc)
+place_kept letters.G nowhere f g a k = ap (λ (x : Fields). places.Reg x.reg) k
+place_kept letters.G in_rm f g a k = ap (λ (x : Fields). places.Reg x.reg) k
+place_kept letters.G in_imm f g a k = ap (λ (x : Fields). places.Reg x.reg) k
+place_kept letters.O in_reg f g a k = absurd (cc)
+place_kept letters.O nowhere f g a k = ap (λ (x : Fields). places.Reg x.reg) k
+place_kept letters.O in_rm f g a k = ap (λ (x : Fields). places.Reg x.reg) k
+place_kept letters.O in_imm f g a k = ap (λ (x : Fields). places.Reg x.reg) k
+place_kept letters.A t f g a k = refl
+place_kept _ in_rm f g a k = absurd (cc)
+place_kept _ nowhere f g a k = ap (λ (x : Fields). x.rm) k
+place_kept _ in_reg f g a k = ap (λ (x : Fields). x.rm) k
+place_kept _ in_imm f g a k = ap (λ (x : Fields). x.rm) k
+
+pub reg_kept : (l : Letter) (t : Slot) (f g : Fields) → apart (reg_slot l) t ≡ true → Kept t f g → reg_at l g ≡ reg_at l f
+reg_kept letters.A t f g a k = refl
+reg_kept _ in_reg f g a k = absurd (cc)
+reg_kept _ nowhere f g a k = ap (λ (x : Fields). x.reg) k
+reg_kept _ in_rm f g a k = ap (λ (x : Fields). x.reg) k
+reg_kept _ in_imm f g a k = ap (λ (x : Fields). x.reg) k
+
+pub number_kept : (l : Letter) (t : Slot) (f g : Fields) → apart (reg_slot l) t ≡ true → Kept t f g → number_at l g ≡ number_at l f
+number_kept l t f g a k = ap number_of (reg_kept l t f g a k)
+
+pub w_kept : (t : Slot) (f g : Fields) → Kept t f g → g.w ≡ f.w
+w_kept nowhere f g k = ap (λ (x : Fields). x.w) k
+w_kept in_rm f g k = ap (λ (x : Fields). x.w) k
+w_kept in_reg f g k = ap (λ (x : Fields). x.w) k
+w_kept in_imm f g k = ap (λ (x : Fields). x.w) k
+
+pub cond_kept : (t : Slot) (f g : Fields) → Kept t f g → g.cond ≡ f.cond
+cond_kept nowhere f g k = ap (λ (x : Fields). x.cond) k
+cond_kept in_rm f g k = ap (λ (x : Fields). x.cond) k
+cond_kept in_reg f g k = ap (λ (x : Fields). x.cond) k
+cond_kept in_imm f g k = ap (λ (x : Fields). x.cond) k
+
+-- the immediate of a product stands before its operands
+place_imm : (l : Letter) (f g : Fields) → Kept (place_slot l) f g → g.imm ≡ f.imm
+place_imm letters.G f g k = ap (λ (x : Fields). x.imm) k
+place_imm letters.O f g k = ap (λ (x : Fields). x.imm) k
+place_imm letters.A f g k = ap (λ (x : Fields). x.imm) k
+place_imm _ f g k = ap (λ (x : Fields). x.imm) k
+
+reg_imm : (l : Letter) (f g : Fields) → Kept (reg_slot l) f g → g.imm ≡ f.imm
+reg_imm letters.A f g k = ap (λ (x : Fields). x.imm) k
+reg_imm _ f g k = ap (λ (x : Fields). x.imm) k
+
+-- ---- two operands
+
+pub record TwoPlaces (d s : Letter) (p : Place) (o : Operand) (f g : Fields) : Type 0 where
+  pub w : g.w ≡ f.w
+  pub dst : place_at d g ≡ p
+  pub src : operand_at s g ≡ o
+
+pub place_operand : (d s : Letter) (p : Place) (o : Operand) (f g : Fields) → apart (place_slot d) (operand_slot s) ≡ true
+    → option_and_then (with_operand s o) (with_place d p f) ≡ Some g → TwoPlaces d s p o f g
+place_operand d s p o f g a e = option_and_then_some (with_operand s o) (with_place d p f) g e (λ m em eg.
+    let x = with_place-step d p f m em in
+    let y = with_operand-step s o m g eg in
+    record { w = w_kept (operand_slot s) m g y.1 ∙ w_kept (place_slot d) f m x.1; dst = place_kept d (operand_slot s) m g a y.1 ∙ x.0; src = y.0 })
+
+pub record NumberPlace (d s : Letter) (n : ℕ) (p : Place) (f g : Fields) : Type 0 where
+  pub w : g.w ≡ f.w
+  pub cond : g.cond ≡ f.cond
+  pub imm : g.imm ≡ f.imm
+  pub dst : number_at d g ≡ n
+  pub src : place_at s g ≡ p
+
+pub number_place : (d s : Letter) (n : ℕ) (p : Place) (f g : Fields) → apart (reg_slot d) (place_slot s) ≡ true
+    → option_and_then (with_place s p) (with_number d n f) ≡ Some g → NumberPlace d s n p f g
+number_place d s n p f g a e = option_and_then_some (with_place s p) (with_number d n f) g e (λ m em eg.
+    let x = with_number-step d n f m em in
+    let y = with_place-step s p m g eg in
+    record {
+      w = w_kept (place_slot s) m g y.1 ∙ w_kept (reg_slot d) f m x.1;
+      cond = cond_kept (place_slot s) m g y.1 ∙ cond_kept (reg_slot d) f m x.1;
+      imm = place_imm s m g y.1 ∙ reg_imm d f m x.1;
+      dst = number_kept d (place_slot s) m g a y.1 ∙ x.0;
+      src = y.0;
+    })
+
+pub record PlaceAnd (d : Letter) (p : Place) (B : Fields → Type 0) (f g : Fields) : Type 0 where
+  pub w : g.w ≡ f.w
+  pub dst : place_at d g ≡ p
+  pub other : B g
+
+pub place_count : (d c : Letter) (p : Place) (x : Count) (f g : Fields) → g.imm < 2 ^ 8 → apart (place_slot d) (count_slot c) ≡ true
+    → option_and_then (with_count c x) (with_place d p f) ≡ Some g → PlaceAnd d p (λ k. count_at c k ≡ x) f g
+place_count d c p x f g small a e = option_and_then_some (with_count c x) (with_place d p f) g e (λ m em eg.
+    let u = with_place-step d p f m em in
+    let v = with_count-step c x m g small eg in
+    record { w = w_kept (count_slot c) m g v.1 ∙ w_kept (place_slot d) f m u.1; dst = place_kept d (count_slot c) m g a v.1 ∙ u.0; other = v.0 })
+
+pub place_index : (d i : Letter) (p : Place) (x : BitIndex) (f g : Fields) → g.imm < 2 ^ 8 → apart (place_slot d) (index_slot i) ≡ true
+    → option_and_then (with_index i x) (with_place d p f) ≡ Some g → PlaceAnd d p (λ k. index_at i k ≡ x) f g
+place_index d i p x f g small a e = option_and_then_some (with_index i x) (with_place d p f) g e (λ m em eg.
+    let u = with_place-step d p f m em in
+    let v = with_index-step i x m g small eg in
+    record { w = w_kept (index_slot i) m g v.1 ∙ w_kept (place_slot d) f m u.1; dst = place_kept d (index_slot i) m g a v.1 ∙ u.0; other = v.0 })
+
+pub place_reg : (d s : Letter) (p : Place) (r : Reg) (f g : Fields) → apart (place_slot d) (reg_slot s) ≡ true
+    → option_and_then (with_reg s r) (with_place d p f) ≡ Some g → PlaceAnd d p (λ k. reg_at s k ≡ r) f g
+place_reg d s p r f g a e = option_and_then_some (with_reg s r) (with_place d p f) g e (λ m em eg.
+    let u = with_place-step d p f m em in
+    let v = with_reg-step s r m g eg in
+    record { w = w_kept (reg_slot s) m g v.1 ∙ w_kept (place_slot d) f m u.1; dst = place_kept d (reg_slot s) m g a v.1 ∙ u.0; other = v.0 })
+
+pub place_number : (d s : Letter) (p : Place) (n : ℕ) (f g : Fields) → apart (place_slot d) (reg_slot s) ≡ true
+    → option_and_then (with_number s n) (with_place d p f) ≡ Some g → PlaceAnd d p (λ k. number_at s k ≡ n) f g
+place_number d s p n f g a e =
+    let r = place_reg d s p (regs.R n) f g a e in
+    record { w = r.w; dst = r.dst; other = ap number_of r.other }
+
+pub record PlaceNumberCount (d s c : Letter) (p : Place) (n : ℕ) (x : Count) (f g : Fields) : Type 0 where
+  pub w : g.w ≡ f.w
+  pub dst : place_at d g ≡ p
+  pub src : number_at s g ≡ n
+  pub count : count_at c g ≡ x
+
+three : (a b c : Bool) → (a && b && c) ≡ true → (a ≡ true) × (b ≡ true) × (c ≡ true)
+three a b c h = (grind arith, grind arith, grind arith)
+
+pub place_number_count : (d s c : Letter) (p : Place) (n : ℕ) (x : Count) (f g : Fields) → g.imm < 2 ^ 8
+    → (apart (place_slot d) (reg_slot s) && apart (place_slot d) (count_slot c) && apart (reg_slot s) (count_slot c)) ≡ true
+    → option_and_then (with_count c x) (option_and_then (with_number s n) (with_place d p f)) ≡ Some g → PlaceNumberCount d s c p n x f g
+place_number_count d s c p n x f g small a e = option_and_then_some (with_count c x) (option_and_then (with_number s n) (with_place d p f)) g e (λ m em eg.
+    let t = three (apart (place_slot d) (reg_slot s)) (apart (place_slot d) (count_slot c)) (apart (reg_slot s) (count_slot c)) a in
+    let u = place_number d s p n f m t.0 em in
+    let v = with_count-step c x m g small eg in
+    record {
+      w = w_kept (count_slot c) m g v.1 ∙ u.w;
+      dst = place_kept d (count_slot c) m g t.1 v.1 ∙ u.dst;
+      src = number_kept s (count_slot c) m g t.2 v.1 ∙ u.other;
+      count = v.0;
+    })
+
+-- ---- the condition's number
+
+pub cond_again : (c : Cond) → cond_of (number_of_cond c % 16) ≡ c
+cond_again conds.O = refl
+cond_again conds.NO = refl
+cond_again conds.B = refl
+cond_again conds.AE = refl
+cond_again conds.E = refl
+cond_again conds.NE = refl
+cond_again conds.BE = refl
+cond_again conds.A = refl
+cond_again conds.S = refl
+cond_again conds.NS = refl
+cond_again conds.P = refl
+cond_again conds.NP = refl
+cond_again conds.L = refl
+cond_again conds.GE = refl
+cond_again conds.LE = refl
+cond_again conds.G = refl
+
+rep_again : (rep : Bool) → is_rep (rep_byte rep) ≡ rep
+rep_again true = refl
+rep_again false = refl
+
+-- ---- what is found builds the instruction
+
+abbrev pub imm_small : Op → ℕ → Type 0
+imm_small (ops.Shift o d c) n = n < 2 ^ 8
+imm_small (ops.DoubleShift o d s c) n = n < 2 ^ 8
+imm_small (ops.BitTest o d i) n = n < 2 ^ 8
+imm_small ops.Ret n = n < 2 ^ 16
+imm_small _ n = ⊤
+
+-- a test and what it lets through
+pub passed : (b : Bool) (o : Option Fields) (g : Fields) → (if b then o else None) ≡ Some g → (b ≡ true) × (o ≡ Some g)
+passed true o g e = (refl, e)
+passed false o g e = absurd (cc)
+
+both : (a b : Bool) → (a && b) ≡ true → (a ≡ true) × (b ≡ true)
+both a b h = (grind arith, grind arith)
+
+pub built : (op : Op) (x : Insn) (f g : Fields) → operands_apart op ≡ true → imm_small op g.imm → found_in op x f ≡ Some g → build_op op g ≡ x
+built (ops.Arith o d s) (insns.Arith p w dst src) f g a small e =
+    let t = passed (same_arith o p) _ g e in
+    let q = same_arith-is o p t.0 in
+    let r = place_operand d s dst src _ g a t.1 in
+    λ i. insns.Arith (q i) (r.w i) (r.dst i) (r.src i)
+built (ops.Test d s) (insns.Test w dst src) f g a small e = let r = place_operand d s dst src _ g a e in λ i. insns.Test (r.w i) (r.dst i) (r.src i)
+built (ops.Mov d s) (insns.Mov w dst src) f g a small e = let r = place_operand d s dst src _ g a e in λ i. insns.Mov (r.w i) (r.dst i) (r.src i)
+built (ops.Lea d s) (insns.Lea w dst src) f g a small e = let r = number_place d s dst src _ g a e in λ i. insns.Lea (r.w i) (r.dst i) (r.src i)
+built (ops.Extend o d s) (insns.Extend p to from dst src) f g a small e =
+    let t = passed (same_truth o p && same_width from (letter_width s to)) _ g e in
+    let b = both (same_truth o p) (same_width from (letter_width s to)) t.0 in
+    let q = same_truth-is o p b.0 in
+    let v = same_width-is from (letter_width s to) b.1 in
+    let r = number_place d s dst src _ g a t.1 in
+    let u = ap (letter_width s) r.w ∙ sym v in
+    λ i. insns.Extend (q i) (r.w i) (u i) (r.dst i) (r.src i)
+built (ops.Push s) (insns.Push src) f g a small e = ap insns.Push (with_operand-step s src f g e).0
+built (ops.Pop d) (insns.Pop dst) f g a small e = ap insns.Pop (with_place-step d dst f g e).0
+built ops.Leave insns.Leave f g a small e = refl
+built ops.PushFlags insns.PushFlags f g a small e = refl
+built ops.PopFlags insns.PopFlags f g a small e = refl
+built (ops.Unary o d) (insns.Unary p w dst) f g a small e =
+    let t = passed (same_unary o p) _ g e in
+    let q = same_unary-is o p t.0 in
+    let r = with_place-step d dst _ g t.1 in
+    let v = w_kept (place_slot d) _ g r.1 in
+    λ i. insns.Unary (q i) (v i) (r.0 i)
+built (ops.Wide o s) (insns.Wide p w src) f g a small e =
+    let t = passed (same_wide o p) _ g e in
+    let q = same_wide-is o p t.0 in
+    let r = with_place-step s src _ g t.1 in
+    let v = w_kept (place_slot s) _ g r.1 in
+    λ i. insns.Wide (q i) (v i) (r.0 i)
+built (ops.Imul2 d s) (insns.Imul2 w dst src) f g a small e = let r = number_place d s dst src _ g a e in λ i. insns.Imul2 (r.w i) (r.dst i) (r.src i)
+built (ops.Imul3 d s k) (insns.Imul3 w dst src imm) f g a small e = let r = number_place d s dst src _ g a e in λ i. insns.Imul3 (r.w i) (r.dst i) (r.src i) (r.imm i)
+built (ops.Shift o d c) (insns.Shift p w dst count) f g a small e =
+    let t = passed (same_shift o p) _ g e in
+    let q = same_shift-is o p t.0 in
+    let r = place_count d c dst count _ g small a t.1 in
+    λ i. insns.Shift (q i) (r.w i) (r.dst i) (r.other i)
+built (ops.DoubleShift o d s c) (insns.DoubleShift p w dst src count) f g a small e =
+    let t = passed (same_truth o p) _ g e in
+    let q = same_truth-is o p t.0 in
+    let r = place_number_count d s c dst src count _ g small a t.1 in
+    λ i. insns.DoubleShift (q i) (r.w i) (r.dst i) (r.src i) (r.count i)
+built (ops.Cmov d s) (insns.Cmov c w dst src) f g a small e =
+    let r = number_place d s dst src _ g a e in
+    let q = ap (λ k. cond_of (k % 16)) r.cond ∙ cond_again c in
+    λ i. insns.Cmov (q i) (r.w i) (r.dst i) (r.src i)
+built (ops.Set d) (insns.Set c dst) f g a small e =
+    let r = with_place-step d dst _ g e in
+    let q = ap (λ k. cond_of (k % 16)) (cond_kept (place_slot d) _ g r.1) ∙ cond_again c in
+    λ i. insns.Set (q i) (r.0 i)
+built ops.Jcc (insns.Jcc c target) f g a small e =
+    let s = some_is _ g e in
+    let q = ap (λ (k : Fields). cond_of (k.cond % 16)) (sym s) ∙ cond_again c in
+    let t = ap (λ (k : Fields). k.imm) (sym s) in
+    λ i. insns.Jcc (q i) (t i)
+built ops.Jrcxz (insns.Jrcxz target) f g a small e = ap (λ (k : Fields). insns.Jrcxz k.imm) (sym (some_is _ g e))
+built ops.Jmp (insns.Jmp target) f g a small e = ap (λ (k : Fields). insns.Jmp k.imm) (sym (some_is _ g e))
+built ops.Call (insns.Call target) f g a small e = ap (λ (k : Fields). insns.Call k.imm) (sym (some_is _ g e))
+built (ops.CallInd s) (insns.CallInd src) f g a small e = ap insns.CallInd (with_place-step s src f g e).0
+built (ops.JmpInd s) (insns.JmpInd src) f g a small e = ap insns.JmpInd (with_place-step s src f g e).0
+built ops.Ret (insns.Ret pop) f g a small e = let t = ap (λ (k : Fields). k.imm) (sym (some_is _ g e)) in ap insns.Ret (cut16 pop g.imm t small)
+  where
+    cut16 : (n k : ℕ) → k ≡ n → k < 2 ^ 16 → k % 2 ^ 16 ≡ n
+    cut16 n k e lt = omega arith
+built ops.Convert (insns.Convert w) f g a small e = ap (λ (k : Fields). insns.Convert k.w) (sym (some_is _ g e))
+built ops.SignFill (insns.SignFill w) f g a small e = ap (λ (k : Fields). insns.SignFill k.w) (sym (some_is _ g e))
+built (ops.Xchg d s) (insns.Xchg w dst src) f g a small e = let r = place_reg d s dst src _ g a e in λ i. insns.Xchg (r.w i) (r.dst i) (r.other i)
+built ops.Nop insns.Nop f g a small e = refl
+built (ops.Bswap d) (insns.Bswap w reg) f g a small e =
+    let r = with_number-step d reg _ g e in
+    let v = w_kept (reg_slot d) _ g r.1 in
+    λ i. insns.Bswap (v i) (r.0 i)
+built (ops.BitTest o d k) (insns.BitTest p w dst index) f g a small e =
+    let t = passed (same_bit o p) _ g e in
+    let q = same_bit-is o p t.0 in
+    let r = place_index d k dst index _ g small a t.1 in
+    λ i. insns.BitTest (q i) (r.w i) (r.dst i) (r.other i)
+built (ops.Scan o d s) (insns.Scan p w dst src) f g a small e =
+    let t = passed (same_scan o p) _ g e in
+    let q = same_scan-is o p t.0 in
+    let r = number_place d s dst src _ g a t.1 in
+    λ i. insns.Scan (q i) (r.w i) (r.dst i) (r.src i)
+built ops.Movs (insns.Movs w rep) f g a small e =
+    let s = some_is _ g e in
+    let v = ap (λ (k : Fields). k.w) (sym s) in
+    let q = ap (λ (k : Fields). is_rep k.rep) (sym s) ∙ rep_again rep in
+    λ i. insns.Movs (v i) (q i)
+built ops.Stos (insns.Stos w rep) f g a small e =
+    let s = some_is _ g e in
+    let v = ap (λ (k : Fields). k.w) (sym s) in
+    let q = ap (λ (k : Fields). is_rep k.rep) (sym s) ∙ rep_again rep in
+    λ i. insns.Stos (v i) (q i)
+built (ops.Flag o) (insns.Flag p) f g a small e = ap insns.Flag (same_change-is o p (passed (same_change o p) (Some f) g e).0)
+built ops.Syscall insns.Syscall f g a small e = refl
+built ops.Ud2 insns.Ud2 f g a small e = refl
+built ops.Hlt insns.Hlt f g a small e = refl
+built ops.Int3 insns.Int3 f g a small e = refl
+built _ _ f g a small e = absurd (cc)

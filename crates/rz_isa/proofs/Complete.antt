@@ -1,0 +1,531 @@
+use Rattle.std.proofs.Common.{ℕ, zero, suc, ◌≡◌, ◌+◌, ◌-◌, ◌*◌, ◌/◌, ◌%◌, ◌^◌, ◌<◌, ◌≤◌, ◌==◌, refl, ap, sym, ◌∙◌, subst, arith, List, [], ◌∷◌, length, Bool, true, false, not, ◌&&◌, ◌||◌, inl, inr, Option, Some, None}
+use Rattle.std.specs.Prelude.{nat_lt, is_some, if◌then◌else◌}
+use Rattle.std.proofs.lemmas.Bool.{cases_Bool}
+use Rattle.std.proofs.lemmas.Bool.Decides.{nat_tests}
+use Rattle.rz_num.specs.declared.width.Width.{Width}
+use Rattle.rz_num.specs.declared.width.Width.TheVariants.{W8, W16, W32, W64}
+use Rattle.rz_isa.specs.declared.rows.OpMap.{OpMap}
+use Rattle.rz_isa.specs.declared.rows.OpMap.TheVariants as maps
+use Rattle.rz_isa.specs.declared.rows.F3Rule.{F3Rule}
+use Rattle.rz_isa.specs.declared.rows.F3Rule.TheVariants as f3s
+use Rattle.rz_isa.specs.declared.rows.Size.{Size}
+use Rattle.rz_isa.specs.declared.rows.Size.TheVariants as sizes
+use Rattle.rz_isa.specs.declared.rows.RmRule.{RmRule}
+use Rattle.rz_isa.specs.declared.rows.RmRule.TheVariants as rules
+use Rattle.rz_isa.specs.declared.rows.ImmKind.{ImmKind}
+use Rattle.rz_isa.specs.declared.rows.ImmKind.TheVariants as imms
+use Rattle.rz_isa.specs.declared.rows.Row.{Row}
+use Rattle.rz_isa.specs.declared.rows.Letter.TheVariants as letters
+use Rattle.rz_isa.specs.declared.rows.Op.{Op}
+use Rattle.rz_isa.specs.declared.rows.Op.TheVariants as ops
+use Rattle.rz_isa.specs.declared.instruction.Reg.TheVariants as regs
+use Rattle.rz_isa.specs.declared.instruction.Place.{Place}
+use Rattle.rz_isa.specs.declared.instruction.Place.TheVariants as places
+use Rattle.rz_isa.specs.Number.{are_bytes, number, numbers, extended, displaced_by}
+use Rattle.rz_isa.specs.Spelling.{Parts, Fits, bit_w, bit_r, bit_x, bit_b, is_met, w_demand, b_demand, disp_len, rm_len, second, rm_fits, width_of, width_at, imm_len, times}
+use Rattle.rz_isa.specs.Fields.{reg_of, index_of, base_of, sib_mem, base_mem, behind_one, place_of, rm_place, rm_width, reg_field, reg_number, imm_of, rep_of, fields}
+use Rattle.rz_isa.specs.Having.{is_wide, has_width, code_of, is_register, is_first, is_high, is_low_byte, in_reg_field, in_opcode, is_number, is_index, is_memory, names_register, names_memory, has_place, has_cond, has_imm, has_rep, w_needed, x_needed, place_b, b_needed, rex_needed, low_byte_place, high_place, number_in, needs_rex, bars_rex, opcode_of, can_have}
+use Rattle.rz_isa.specs.Regular.{is_regular, is_block, is_exchange}
+use Rattle.rz_isa.proofs.Numbers.{number_less, numbers_1, numbers_2, numbers_full, signed_is_disp, extended_byte, extended_four}
+use Rattle.rz_isa.proofs.Again.{can_of}
+use Rattle.rz_isa.proofs.Inverse.{IsRegular, regular_of}
+
+-- The fields of a spelling are fields that its row can have.
+
+-- ---- choices
+
+pub if_true : {X : Type 0} (b : Bool) (x y : X) → b ≡ true → (if b then x else y) ≡ x
+if_true b x y e = ap (λ k. if k then x else y) e
+
+pub if_false : {X : Type 0} (b : Bool) (x y : X) → b ≡ false → (if b then x else y) ≡ y
+if_false b x y e = ap (λ k. if k then x else y) e
+
+-- what holds on both ways holds of the choice
+pub if_both : {X : Type 0} (P : X → Type 0) (b : Bool) (x y : X) → (b ≡ true → P x) → (b ≡ false → P y) → P (if b then x else y)
+if_both P true x y f g = f refl
+if_both P false x y f g = g refl
+
+-- ---- the width
+
+pub width_had : (c : Size) (b n : ℕ) → has_width c (width_of c b n) ≡ true
+width_had sizes.B b n = refl
+width_had sizes.V b n = if_both (λ w. has_width sizes.V w ≡ true) (b == 1) W64 (if n == 0 then W32 else W16) (λ _. refl) (λ _. if_both (λ w. has_width sizes.V w ≡ true) (n == 0) W32 W16 (λ _. refl) (λ _. refl))
+width_had sizes.D b n = if_both (λ w. has_width sizes.D w ≡ true) (n == 0) W32 W16 (λ _. refl) (λ _. refl)
+width_had sizes.Y b n = if_both (λ w. has_width sizes.Y w ≡ true) (b == 1) W64 W32 (λ _. refl) (λ _. refl)
+width_had sizes.Q b n = refl
+width_had sizes.WQ b n = refl
+width_had sizes.N b n = refl
+
+-- ---- registers
+
+pub code_again : (w : Width) (rex : Option ℕ) (n : ℕ) → code_of (reg_of w rex n) ≡ n
+code_again W8 None n = if_both (λ r. code_of r ≡ n) (nat_lt n 4) (regs.R n) (regs.High (n - 4)) (λ _. refl) (λ e. (let le : 4 ≤ n = grind (arith, nat_tests) in omega arith))
+code_again W8 (Some r) n = refl
+code_again W16 rex n = refl
+code_again W32 rex n = refl
+code_again W64 rex n = refl
+
+pub registered : (w : Width) (rex : Option ℕ) (n : ℕ) → n < 16 → (rex ≡ None → n < 8) → is_register w (reg_of w rex n) ≡ true
+registered W8 None n lt low = (let l = low refl in if_both (λ r. is_register W8 r ≡ true) (nat_lt n 4) (regs.R n) (regs.High (n - 4)) (λ e. grind (arith, nat_tests)) (λ e. grind (arith, nat_tests)))
+registered W8 (Some r) n lt low = grind (arith, nat_tests)
+registered W16 rex n lt low = grind (arith, nat_tests)
+registered W32 rex n lt low = grind (arith, nat_tests)
+registered W64 rex n lt low = grind (arith, nat_tests)
+
+first_again : (w : Width) (rex : Option ℕ) → is_first (reg_of w rex 0) ≡ true
+first_again W8 None = refl
+first_again W8 (Some r) = refl
+first_again W16 rex = refl
+first_again W32 rex = refl
+first_again W64 rex = refl
+
+-- three bits and a bit of REX
+pub with_bit : (low bit : ℕ) → low < 8 → bit < 2 → low + 8 * bit < 16
+with_bit low bit a b = omega arith
+
+pub r_bit : (rex : Option ℕ) → bit_r rex < 2
+r_bit rex = omega arith
+
+pub x_bit : (rex : Option ℕ) → bit_x rex < 2
+x_bit rex = omega arith
+
+pub b_bit : (rex : Option ℕ) → bit_b rex < 2
+b_bit rex = omega arith
+
+no_r : (rex : Option ℕ) (low : ℕ) → low < 8 → rex ≡ None → low + 8 * bit_r rex < 8
+no_r None low lt e = omega arith
+no_r (Some r) low lt e = absurd (cc)
+
+no_x : (rex : Option ℕ) (low : ℕ) → low < 8 → rex ≡ None → low + 8 * bit_x rex < 8
+no_x None low lt e = omega arith
+no_x (Some r) low lt e = absurd (cc)
+
+no_b : (rex : Option ℕ) (low : ℕ) → low < 8 → rex ≡ None → low + 8 * bit_b rex < 8
+no_b None low lt e = omega arith
+no_b (Some r) low lt e = absurd (cc)
+
+pub field_low : (rm : List ℕ) → reg_field rm < 8
+field_low [] = omega arith
+field_low (m ∷ rest) = omega arith
+
+reg_registered : (w : Width) (p : Parts) → is_register w (reg_of w p.rex (reg_field p.rm + 8 * bit_r p.rex)) ≡ true
+reg_registered w p = registered w p.rex (reg_field p.rm + 8 * bit_r p.rex) (with_bit (reg_field p.rm) (bit_r p.rex) (field_low p.rm) (r_bit p.rex)) (no_r p.rex (reg_field p.rm) (field_low p.rm))
+
+eighth_low : (n : ℕ) → n % 8 < 8
+eighth_low n = omega arith
+
+opcode_registered : (w : Width) (p : Parts) → is_register w (reg_of w p.rex (p.opcode % 8 + 8 * bit_b p.rex)) ≡ true
+opcode_registered w p = registered w p.rex (p.opcode % 8 + 8 * bit_b p.rex) (with_bit (p.opcode % 8) (bit_b p.rex) (eighth_low p.opcode) (b_bit p.rex)) (no_b p.rex (p.opcode % 8) (eighth_low p.opcode))
+
+pub reg_of_parts : (rm : Option RmRule) (digit : Option ℕ) (span : ℕ) (w : Width) (p : Parts)
+    → (if in_reg_field rm digit || in_opcode rm span then is_register w (reg_of w p.rex (reg_number rm digit span p)) else is_first (reg_of w p.rex (reg_number rm digit span p))) ≡ true
+reg_of_parts None digit span w p = elim (cases_Bool (span == 8)) [
+  | inl y ↦ ap (λ k. if k then is_register w (reg_of w p.rex (if k then p.opcode % 8 + 8 * bit_b p.rex else 0)) else is_first (reg_of w p.rex (if k then p.opcode % 8 + 8 * bit_b p.rex else 0))) y ∙ opcode_registered w p
+  | inr n ↦ ap (λ k. if k then is_register w (reg_of w p.rex (if k then p.opcode % 8 + 8 * bit_b p.rex else 0)) else is_first (reg_of w p.rex (if k then p.opcode % 8 + 8 * bit_b p.rex else 0))) n ∙ first_again w p.rex
+]
+reg_of_parts (Some (rules.Fixed b)) digit span w p = first_again w p.rex
+reg_of_parts (Some rules.Any) (Some d) span w p = first_again w p.rex
+reg_of_parts (Some rules.Any) None span w p = reg_registered w p
+reg_of_parts (Some rules.MemoryOnly) (Some d) span w p = first_again w p.rex
+reg_of_parts (Some rules.MemoryOnly) None span w p = reg_registered w p
+reg_of_parts (Some rules.RegisterOnly) (Some d) span w p = first_again w p.rex
+reg_of_parts (Some rules.RegisterOnly) None span w p = reg_registered w p
+
+-- ---- memory
+
+base_number : (mode low b : ℕ) → low < 8 → b < 2 → is_number (base_of mode low b) ≡ true
+base_number mode low b ll lb = if_both (λ o. is_number o ≡ true) (mode == 0 && low == 5) None (Some (low + 8 * b)) (λ _. refl) (λ _. grind (arith, nat_tests))
+
+quarter : (n : ℕ) → n < 4 → (2 ^ n == 1 || 2 ^ n == 2 || 2 ^ n == 4 || 2 ^ n == 8) ≡ true
+quarter zero lt = refl
+quarter (suc zero) lt = refl
+quarter (suc (suc zero)) lt = refl
+quarter (suc (suc (suc zero))) lt = refl
+quarter (suc (suc (suc (suc n)))) lt = absurd (omega arith)
+
+four_tests : (a b c : Bool) → a ≡ true → b ≡ true → c ≡ true → (a && b && c) ≡ true
+four_tests a b c ea eb ec = grind arith
+
+index_number : (n s : ℕ) → n < 16 → s < 4 → is_index (index_of n) (if is_some (index_of n) then 2 ^ s else 1) ≡ true
+index_number n s ln ls = if_both (λ o. is_index o (if is_some o then 2 ^ s else 1) ≡ true) (n == 4) None (Some n) (λ _. refl) (λ e. four_tests (nat_lt n 16) (not (n == 4)) (2 ^ s == 1 || 2 ^ s == 2 || 2 ^ s == 4 || 2 ^ s == 8) (grind (arith, nat_tests)) (grind (arith, nat_tests)) (quarter s ls))
+
+behind_bytes : (bs : List ℕ) → are_bytes bs ≡ true → are_bytes (behind_one bs) ≡ true
+behind_bytes [] h = refl
+behind_bytes (b ∷ bs) h = grind arith
+
+behind_short : (bs : List ℕ) → length bs ≤ 5 → length (behind_one bs) ≤ 4
+behind_short [] h = omega arith
+behind_short (b ∷ bs) h = omega arith
+
+sib_memory : (mode sib : ℕ) (rex : Option ℕ) (disp : List ℕ) → sib < 256 → are_bytes disp ≡ true → length disp ≤ 4 → is_memory (sib_mem mode sib rex disp) ≡ true
+sib_memory mode sib rex disp lt h short = four_tests _ _ _
+    (base_number mode (sib % 8) (bit_b rex) (omega arith) (b_bit rex))
+    (index_number (sib / 8 % 8 + 8 * bit_x rex) (sib / 64) (with_bit (sib / 8 % 8) (bit_x rex) (omega arith) (x_bit rex)) (omega arith))
+    (signed_is_disp disp h short)
+
+base_memory : (low : ℕ) (rex : Option ℕ) (disp : List ℕ) → low < 8 → are_bytes disp ≡ true → length disp ≤ 4 → is_memory (base_mem low rex disp) ≡ true
+base_memory low rex disp lt h short = four_tests _ _ _ (grind (arith, nat_tests, b_bit rex)) refl (signed_is_disp disp h short)
+
+second_byte : (m : ℕ) (rest : List ℕ) → are_bytes rest ≡ true → second (m ∷ rest) < 256
+second_byte m [] h = omega arith
+second_byte m (s ∷ rest) h = grind (arith, nat_tests)
+
+pub disp_short : (mode low : ℕ) → disp_len mode low ≤ 4
+disp_short mode low = grind arith
+
+address_small : (a : ℕ) → nat_lt (a % 2 ^ 64) (2 ^ 64) ≡ true
+address_small a = (let lt : a % 2 ^ 64 < 2 ^ 64 = omega arith in grind (arith, nat_tests))
+
+or_left : (a b : Bool) → a ≡ true → (a || b) ≡ true
+or_left a b e = grind arith
+
+-- mod 11 names a register, every other mod names memory
+pub place_register : (v : Width) (rex : Option ℕ) (next m : ℕ) (rest : List ℕ) → (m / 64 == 3) ≡ true → names_register v (place_of v rex next (m ∷ rest)) ≡ true
+place_register v rex next m rest y = ap (names_register v) (if_true (m / 64 == 3) _ _ y) ∙ registered v rex (m % 8 + 8 * bit_b rex) (with_bit (m % 8) (bit_b rex) (eighth_low m) (b_bit rex)) (no_b rex (m % 8) (eighth_low m))
+
+pub place_memory : (v : Width) (rex : Option ℕ) (next m : ℕ) (rest : List ℕ) → are_bytes rest ≡ true → 1 + length rest ≡ rm_len m (second (m ∷ rest)) → (m / 64 == 3) ≡ false
+    → names_memory (place_of v rex next (m ∷ rest)) ≡ true
+place_memory v rex next m rest h len n = ap names_memory (if_false (m / 64 == 3) _ _ n) ∙ elim (cases_Bool (m % 8 == 4)) [
+  | inl y ↦
+      (let l : 1 + length rest ≡ 2 + disp_len (m / 64) (second (m ∷ rest) % 8) = len ∙ (if_false (m / 64 == 3) _ _ n ∙ if_true (m % 8 == 4) _ _ y) in
+      let short = disp_short (m / 64) (second (m ∷ rest) % 8) in
+      ap names_memory (if_true (m % 8 == 4) _ _ y) ∙ sib_memory (m / 64) (second (m ∷ rest)) rex (behind_one rest) (second_byte m rest h) (behind_bytes rest h) (behind_short rest (omega arith)))
+  | inr k ↦
+      (let l : 1 + length rest ≡ 1 + disp_len (m / 64) (m % 8) = len ∙ (if_false (m / 64 == 3) _ _ n ∙ if_false (m % 8 == 4) _ _ k) in
+      let short = disp_short (m / 64) (m % 8) in
+      ap names_memory (if_false (m % 8 == 4) _ _ k) ∙ if_both (λ p. names_memory p ≡ true) (m / 64 == 0 && m % 8 == 5) (places.At (displaced_by next rest)) (places.Mem (base_mem (m % 8) rex rest))
+      (λ _. address_small (next + extended rest))
+      (λ _. base_memory (m % 8) rex rest (eighth_low m) h (omega arith)))
+]
+
+-- ---- the ModRM operand
+
+fixed_false : (b : Bool) → b ≡ true → b ≡ false → ⊥
+fixed_false b t f = cc
+
+rm_parts : (a b c : Bool) → (a && b && c) ≡ true → (a ≡ true) × (b ≡ true) × (c ≡ true)
+rm_parts a b c h = (grind arith, grind arith, grind arith)
+
+rm_length : (n k : ℕ) → (n == k) ≡ true → n ≡ k
+rm_length n k h = grind (arith, nat_tests)
+
+pub place_had : (rm : Option RmRule) (digit : Option ℕ) (v : Width) (rex : Option ℕ) (next : ℕ) (bs : List ℕ) → rm_fits rm digit bs ≡ true → are_bytes bs ≡ true
+    → has_place rm v (rm_place rm v rex next bs) ≡ true
+place_had None digit v rex next [] fit h = refl
+place_had None digit v rex next (m ∷ rest) fit h = absurd (cc)
+place_had (Some rule) digit v rex next [] fit h = absurd (cc)
+place_had (Some (rules.Fixed b)) digit v rex next (m ∷ rest) fit h = refl
+place_had (Some rules.Any) digit v rex next (m ∷ rest) fit h =
+    let t = rm_parts true (is_met digit (m / 8 % 8)) (1 + length rest == rm_len m (second (m ∷ rest))) fit in
+    elim (cases_Bool (m / 64 == 3)) [
+      | inl y ↦ or_left _ _ (place_register v rex next m rest y)
+      | inr n ↦ or_right _ _ (place_memory v rex next m rest (grind arith) (rm_length _ _ t.2) n)
+    ]
+  where
+    or_right : (a b : Bool) → b ≡ true → (a || b) ≡ true
+    or_right a b e = grind arith
+place_had (Some rules.MemoryOnly) digit v rex next (m ∷ rest) fit h =
+    let t = rm_parts (not (m / 64 == 3)) (is_met digit (m / 8 % 8)) (1 + length rest == rm_len m (second (m ∷ rest))) fit in
+    place_memory v rex next m rest (grind arith) (rm_length _ _ t.2) (unnot (m / 64 == 3) t.0)
+  where
+    unnot : (b : Bool) → not b ≡ true → b ≡ false
+    unnot b h = grind arith
+place_had (Some rules.RegisterOnly) digit v rex next (m ∷ rest) fit h =
+    let t = rm_parts (m / 64 == 3) (is_met digit (m / 8 % 8)) (1 + length rest == rm_len m (second (m ∷ rest))) fit in
+    place_register v rex next m rest t.0
+
+-- ---- the other fields
+
+pub cond_of_opcode : (span o : ℕ) → has_cond span (if span == 16 then o % 16 else 0) ≡ true
+cond_of_opcode span o = elim (cases_Bool (span == 16)) [
+  | inl y ↦ (let l : nat_lt (o % 16) 16 ≡ true = grind (arith, nat_tests) in ap (λ k. if k then nat_lt (if k then o % 16 else 0) 16 else (if k then o % 16 else 0) == 0) y ∙ l)
+  | inr n ↦ ap (λ k. if k then nat_lt (if k then o % 16 else 0) 16 else (if k then o % 16 else 0) == 0) n
+]
+
+below : (n m : ℕ) → n < m → nat_lt n m ≡ true
+below n m lt = grind (arith, nat_tests)
+
+number_below : (bs : List ℕ) (m : ℕ) → are_bytes bs ≡ true → numbers bs ≡ m → nat_lt (number bs) m ≡ true
+number_below bs m h e = below (number bs) m (subst (λ k. number bs < k) e (number_less bs h))
+
+pub imm_had : (k : Option ImmKind) (w : Width) (next : ℕ) (bs : List ℕ) → are_bytes bs ≡ true → length bs ≡ imm_len k w → has_imm k w (imm_of k w next bs) ≡ true
+imm_had None w next bs h len = refl
+imm_had (Some imms.Ib) w next bs h len = number_below bs (2 ^ 8) h (numbers_1 bs len)
+imm_had (Some imms.Ibs) w next bs h len = extended_byte bs w h len
+imm_had (Some imms.Iw) w next bs h len = number_below bs (2 ^ 16) h (numbers_2 bs len)
+imm_had (Some imms.Iz) W8 next bs h len = below (extended bs % 2 ^ 8) (2 ^ 8) (omega arith)
+imm_had (Some imms.Iz) W16 next bs h len = below (extended bs % 2 ^ 16) (2 ^ 16) (omega arith)
+imm_had (Some imms.Iz) W32 next bs h len = below (extended bs % 2 ^ 32) (2 ^ 32) (omega arith)
+imm_had (Some imms.Iz) W64 next bs h len = extended_four bs h len
+imm_had (Some imms.Iv) W8 next bs h len = number_below bs (2 ^ 8) h (numbers_full W8 bs len)
+imm_had (Some imms.Iv) W16 next bs h len = number_below bs (2 ^ 16) h (numbers_full W16 bs len)
+imm_had (Some imms.Iv) W32 next bs h len = number_below bs (2 ^ 32) h (numbers_full W32 bs len)
+imm_had (Some imms.Iv) W64 next bs h len = number_below bs (2 ^ 64) h (numbers_full W64 bs len)
+imm_had (Some imms.J8) w next bs h len = address_small (next + extended bs)
+imm_had (Some imms.J32) w next bs h len = address_small (next + extended bs)
+
+pub rep_of_prefixes : (r : F3Rule) (n : ℕ) → has_rep r (rep_of r n) ≡ true
+rep_of_prefixes f3s.Repeats n = if_both (λ k. (k == 0 || k == 0xf3) ≡ true) (n == 0) 0 0xf3 (λ _. refl) (λ _. refl)
+rep_of_prefixes f3s.No n = refl
+rep_of_prefixes f3s.Allowed n = refl
+rep_of_prefixes f3s.Required n = refl
+
+-- ---- REX: with one no register is AH, CH, DH or BH, without one none needs it
+
+not_high : (w : Width) (r n : ℕ) → is_high (reg_of w (Some r) n) ≡ false
+not_high W8 r n = refl
+not_high W16 r n = refl
+not_high W32 r n = refl
+not_high W64 r n = refl
+
+place_not_high : (v : Width) (r next : ℕ) (bs : List ℕ) → high_place (place_of v (Some r) next bs) ≡ false
+place_not_high v r next [] = refl
+place_not_high v r next (m ∷ rest) =
+    if_both (λ p. high_place p ≡ false) (m / 64 == 3) (places.Reg (reg_of v (Some r) (m % 8 + 8 * bit_b (Some r)))) _ (λ _. not_high v r (m % 8 + 8 * bit_b (Some r)))
+    (λ _. if_both (λ p. high_place p ≡ false) (m % 8 == 4) (places.Mem (sib_mem (m / 64) (second (m ∷ rest)) (Some r) (behind_one rest))) _ (λ _. refl)
+    (λ _. if_both (λ p. high_place p ≡ false) (m / 64 == 0 && m % 8 == 5) (places.At (displaced_by next rest)) (places.Mem (base_mem (m % 8) (Some r) rest)) (λ _. refl) (λ _. refl)))
+
+rm_not_high : (rm : Option RmRule) (v : Width) (r next : ℕ) (bs : List ℕ) → high_place (rm_place rm v (Some r) next bs) ≡ false
+rm_not_high None v r next bs = place_not_high v r next bs
+rm_not_high (Some rules.Any) v r next bs = place_not_high v r next bs
+rm_not_high (Some rules.MemoryOnly) v r next bs = place_not_high v r next bs
+rm_not_high (Some rules.RegisterOnly) v r next bs = place_not_high v r next bs
+rm_not_high (Some (rules.Fixed b)) v r next bs = refl
+
+not_low : (w : Width) (n : ℕ) → is_low_byte w (reg_of w None n) ≡ false
+not_low W8 n = if_both (λ r. is_low_byte W8 r ≡ false) (nat_lt n 4) (regs.R n) (regs.High (n - 4)) (λ e. grind (arith, nat_tests)) (λ _. refl)
+not_low W16 n = refl
+not_low W32 n = refl
+not_low W64 n = refl
+
+first_not_low : (w : Width) → is_low_byte w (regs.R 0) ≡ false
+first_not_low W8 = refl
+first_not_low W16 = refl
+first_not_low W32 = refl
+first_not_low W64 = refl
+
+place_not_low : (v : Width) (next : ℕ) (bs : List ℕ) → low_byte_place v (place_of v None next bs) ≡ false
+place_not_low v next [] = first_not_low v
+place_not_low v next (m ∷ rest) =
+    if_both (λ p. low_byte_place v p ≡ false) (m / 64 == 3) (places.Reg (reg_of v None (m % 8 + 8 * bit_b None))) _ (λ _. not_low v (m % 8 + 8 * bit_b None))
+    (λ _. if_both (λ p. low_byte_place v p ≡ false) (m % 8 == 4) (places.Mem (sib_mem (m / 64) (second (m ∷ rest)) None (behind_one rest))) _ (λ _. refl)
+    (λ _. if_both (λ p. low_byte_place v p ≡ false) (m / 64 == 0 && m % 8 == 5) (places.At (displaced_by next rest)) (places.Mem (base_mem (m % 8) None rest)) (λ _. refl) (λ _. refl)))
+
+rm_not_low : (rm : Option RmRule) (v : Width) (next : ℕ) (bs : List ℕ) → low_byte_place v (rm_place rm v None next bs) ≡ false
+rm_not_low None v next bs = place_not_low v next bs
+rm_not_low (Some rules.Any) v next bs = place_not_low v next bs
+rm_not_low (Some rules.MemoryOnly) v next bs = place_not_low v next bs
+rm_not_low (Some rules.RegisterOnly) v next bs = place_not_low v next bs
+rm_not_low (Some (rules.Fixed b)) v next bs = first_not_low v
+
+-- ---- the bits of REX that the fields need are among those that stand there
+
+w_of_size : (c : Size) (b n : ℕ) → b < 2 → is_met (w_demand c) b ≡ true → w_needed c (width_of c b n) ≤ b
+w_of_size sizes.B b n lt m = omega arith
+w_of_size sizes.V b n lt m = if_both (λ w. (if is_wide w then 1 else 0) ≤ b) (b == 1) W64 (if n == 0 then W32 else W16) (λ e. grind (arith, nat_tests))
+    (λ _. if_both (λ w. (if is_wide w then 1 else 0) ≤ b) (n == 0) W32 W16 (λ _. omega arith) (λ _. omega arith))
+w_of_size sizes.D b n lt m = omega arith
+w_of_size sizes.Y b n lt m = if_both (λ w. (if is_wide w then 1 else 0) ≤ b) (b == 1) W64 W32 (λ e. grind (arith, nat_tests)) (λ _. omega arith)
+w_of_size sizes.Q b n lt m = omega arith
+w_of_size sizes.WQ b n lt m = grind (arith, nat_tests)
+w_of_size sizes.N b n lt m = omega arith
+
+place_x : (v : Width) (rex : Option ℕ) (next : ℕ) (bs : List ℕ) → x_needed (place_of v rex next bs) ≤ bit_x rex
+place_x v rex next [] = omega arith
+place_x v rex next (m ∷ rest) =
+    if_both (λ p. x_needed p ≤ bit_x rex) (m / 64 == 3) (places.Reg (reg_of v rex (m % 8 + 8 * bit_b rex))) _ (λ _. omega arith)
+    (λ _. if_both (λ p. x_needed p ≤ bit_x rex) (m % 8 == 4) (places.Mem (sib_mem (m / 64) (second (m ∷ rest)) rex (behind_one rest))) _ (λ _. indexed (second (m ∷ rest) / 8 % 8) (bit_x rex) (omega arith))
+    (λ _. if_both (λ p. x_needed p ≤ bit_x rex) (m / 64 == 0 && m % 8 == 5) (places.At (displaced_by next rest)) (places.Mem (base_mem (m % 8) rex rest)) (λ _. omega arith) (λ _. omega arith)))
+  where
+    indexed : (low b : ℕ) → low < 8 → number_in (index_of (low + 8 * b)) / 8 ≤ b
+    indexed low b lt = if_both (λ o. number_in o / 8 ≤ b) (low + 8 * b == 4) None (Some (low + 8 * b)) (λ _. omega arith) (λ _. omega arith)
+
+rm_x : (rm : Option RmRule) (v : Width) (rex : Option ℕ) (next : ℕ) (bs : List ℕ) → x_needed (rm_place rm v rex next bs) ≤ bit_x rex
+rm_x None v rex next bs = place_x v rex next bs
+rm_x (Some rules.Any) v rex next bs = place_x v rex next bs
+rm_x (Some rules.MemoryOnly) v rex next bs = place_x v rex next bs
+rm_x (Some rules.RegisterOnly) v rex next bs = place_x v rex next bs
+rm_x (Some (rules.Fixed b)) v rex next bs = omega arith
+
+reg_b : (v : Width) (rex : Option ℕ) (low b : ℕ) → low < 8 → code_of (reg_of v rex (low + 8 * b)) / 8 ≤ b
+reg_b v rex low b lt = subst (λ k. k / 8 ≤ b) (sym (code_again v rex (low + 8 * b))) (omega arith)
+
+place_of_b : (v : Width) (rex : Option ℕ) (next : ℕ) (bs : List ℕ) → place_b (place_of v rex next bs) ≤ bit_b rex
+place_of_b v rex next [] = omega arith
+place_of_b v rex next (m ∷ rest) =
+    if_both (λ p. place_b p ≤ bit_b rex) (m / 64 == 3) (places.Reg (reg_of v rex (m % 8 + 8 * bit_b rex))) _ (λ _. reg_b v rex (m % 8) (bit_b rex) (eighth_low m))
+    (λ _. if_both (λ p. place_b p ≤ bit_b rex) (m % 8 == 4) (places.Mem (sib_mem (m / 64) (second (m ∷ rest)) rex (behind_one rest))) _ (λ _. based (m / 64) (second (m ∷ rest) % 8) (bit_b rex) (omega arith))
+    (λ _. if_both (λ p. place_b p ≤ bit_b rex) (m / 64 == 0 && m % 8 == 5) (places.At (displaced_by next rest)) (places.Mem (base_mem (m % 8) rex rest)) (λ _. omega arith) (λ _. omega arith)))
+  where
+    based : (mode low b : ℕ) → low < 8 → number_in (base_of mode low b) / 8 ≤ b
+    based mode low b lt = if_both (λ o. number_in o / 8 ≤ b) (mode == 0 && low == 5) None (Some (low + 8 * b)) (λ _. omega arith) (λ _. omega arith)
+
+rm_b : (rm : Option RmRule) (v : Width) (rex : Option ℕ) (next : ℕ) (bs : List ℕ) → place_b (rm_place rm v rex next bs) ≤ bit_b rex
+rm_b None v rex next bs = place_of_b v rex next bs
+rm_b (Some rules.Any) v rex next bs = place_of_b v rex next bs
+rm_b (Some rules.MemoryOnly) v rex next bs = place_of_b v rex next bs
+rm_b (Some rules.RegisterOnly) v rex next bs = place_of_b v rex next bs
+rm_b (Some (rules.Fixed b)) v rex next bs = omega arith
+
+reg_r : (rm : Option RmRule) (digit : Option ℕ) (span : ℕ) (w : Width) (p : Parts) → (if in_reg_field rm digit then code_of (reg_of w p.rex (reg_number rm digit span p)) / 8 else 0) ≤ bit_r p.rex
+reg_r None digit span w p = omega arith
+reg_r (Some (rules.Fixed b)) digit span w p = omega arith
+reg_r (Some rules.Any) (Some d) span w p = omega arith
+reg_r (Some rules.Any) None span w p = reg_b w p.rex (reg_field p.rm) (bit_r p.rex) (field_low p.rm)
+reg_r (Some rules.MemoryOnly) (Some d) span w p = omega arith
+reg_r (Some rules.MemoryOnly) None span w p = reg_b w p.rex (reg_field p.rm) (bit_r p.rex) (field_low p.rm)
+reg_r (Some rules.RegisterOnly) (Some d) span w p = omega arith
+reg_r (Some rules.RegisterOnly) None span w p = reg_b w p.rex (reg_field p.rm) (bit_r p.rex) (field_low p.rm)
+
+opcode_b : (rm : Option RmRule) (digit : Option ℕ) (span : ℕ) (w v : Width) (p : Parts) (next : ℕ)
+    → (if in_opcode rm span then code_of (reg_of w p.rex (reg_number rm digit span p)) / 8 else place_b (rm_place rm v p.rex next p.rm)) ≤ bit_b p.rex
+opcode_b None digit span w v p next = elim (cases_Bool (span == 8)) [
+  | inl y ↦ subst (λ k. (if k then code_of (reg_of w p.rex (if k then p.opcode % 8 + 8 * bit_b p.rex else 0)) / 8 else place_b (place_of v p.rex next p.rm)) ≤ bit_b p.rex) (sym y) (reg_b w p.rex (p.opcode % 8) (bit_b p.rex) (eighth_low p.opcode))
+  | inr n ↦ subst (λ k. (if k then code_of (reg_of w p.rex (if k then p.opcode % 8 + 8 * bit_b p.rex else 0)) / 8 else place_b (place_of v p.rex next p.rm)) ≤ bit_b p.rex) (sym n) (place_of_b v p.rex next p.rm)
+]
+opcode_b (Some r) digit span w v p next = rm_b (Some r) v p.rex next p.rm
+
+-- ---- both joined tests
+
+abbrev pub rm_of : Row → Parts → ℕ → Place
+rm_of row p next = rm_place row.rm (rm_width row.op (width_at row p)) p.rex next p.rm
+
+pub w_bit : (rex : Option ℕ) → bit_w rex < 2
+w_bit None = omega arith
+w_bit (Some r) = omega arith
+
+no_bits : (rex : Option ℕ) → rex ≡ None → (bit_w rex ≡ 0) × (bit_r rex ≡ 0) × (bit_x rex ≡ 0) × (bit_b rex ≡ 0)
+no_bits None e = (refl, refl, refl, refl)
+no_bits (Some r) e = absurd (cc)
+
+not_positive : (n : ℕ) → n ≡ 0 → nat_lt 0 n ≡ false
+not_positive n e = grind (arith, nat_tests)
+
+three_false : (a b c : Bool) → a ≡ false → b ≡ false → c ≡ false → (a || b || c) ≡ false
+three_false a b c ea eb ec = grind arith
+
+sum_zero : (a b c d : ℕ) → a ≤ 0 → b ≤ 0 → c ≤ 0 → d ≤ 0 → 8 * a + 4 * b + 2 * c + d ≡ 0
+sum_zero a b c d ea eb ec ed = omega arith
+
+at_zero : (a b : ℕ) → a ≤ b → b ≡ 0 → a ≤ 0
+at_zero a b le e = omega arith
+
+pub none_needed : (row : Row) (p : Parts) (next : ℕ) → Fits row p → p.rex ≡ None → needs_rex row (fields row p next) ≡ false
+none_needed row p next fit e =
+    let w = width_at row p in
+    let v = rm_width row.op w in
+    let z = no_bits p.rex e in
+    let a = at_zero _ _ (w_of_size row.size (bit_w p.rex) (times 0x66 p.prefixes) (w_bit p.rex) fit.w) z.0 in
+    let b = at_zero _ _ (reg_r row.rm row.digit row.span w p) z.1 in
+    let c = at_zero _ _ (rm_x row.rm v p.rex next p.rm) z.2 in
+    let d = at_zero _ _ (opcode_b row.rm row.digit row.span w v p next) z.3 in
+    let n : rex_needed row (fields row p next) ≡ 0 = sum_zero _ _ _ _ a b c d in
+    three_false _ _ _
+    (not_positive (rex_needed row (fields row p next)) n)
+    (ap (λ x. is_low_byte w (reg_of w x (reg_number row.rm row.digit row.span p))) e ∙ not_low w (reg_number row.rm row.digit row.span p))
+    (ap (λ x. low_byte_place v (rm_place row.rm v x next p.rm)) e ∙ rm_not_low row.rm v next p.rm)
+
+two_false : (a b : Bool) → a ≡ false → b ≡ false → (a || b) ≡ false
+two_false a b ea eb = grind arith
+
+pub none_barred : (row : Row) (p : Parts) (next r : ℕ) → p.rex ≡ Some r → bars_rex (fields row p next) ≡ false
+none_barred row p next r e =
+    let w = width_at row p in
+    let v = rm_width row.op w in
+    two_false _ _
+    (ap (λ x. is_high (reg_of w x (reg_number row.rm row.digit row.span p))) e ∙ not_high w r (reg_number row.rm row.digit row.span p))
+    (ap (λ x. high_place (rm_place row.rm v x next p.rm)) e ∙ rm_not_high row.rm v r next p.rm)
+
+pub rex_joined : (row : Row) (p : Parts) (next : ℕ) → Fits row p → not (bars_rex (fields row p next) && needs_rex row (fields row p next)) ≡ true
+rex_joined row p next fit = by_rex p.rex refl
+  where
+    left : (a b : Bool) → a ≡ false → not (a && b) ≡ true
+    left a b e = grind arith
+
+    right : (a b : Bool) → b ≡ false → not (a && b) ≡ true
+    right a b e = grind arith
+
+    by_rex : (o : Option ℕ) → p.rex ≡ o → not (bars_rex (fields row p next) && needs_rex row (fields row p next)) ≡ true
+    by_rex None e = right _ _ (none_needed row p next fit e)
+    by_rex (Some r) e = left _ _ (none_barred row p next r e)
+
+-- ---- REX.B where the row demands it
+
+zero_met : (op : Op) (m : OpMap) (o n : ℕ) → n ≡ 0 → is_exchange op ≡ false → is_met (b_demand op m o) n ≡ true
+zero_met (ops.Xchg letters.O letters.A) m o n e x = absurd (cc)
+zero_met ops.Nop maps.One o n e x = elim (cases_Bool (o == 0x90)) [ inl y ↦ grind (arith, nat_tests) | inr k ↦ grind (arith, nat_tests) ]
+zero_met _ m o n e x = refl
+
+undemanding : (op : Op) (m : OpMap) (o n : ℕ) → is_some (b_demand op m 0x90) ≡ false → is_met (b_demand op m o) n ≡ true
+undemanding (ops.Xchg letters.O letters.A) m o n e = absurd (cc)
+undemanding ops.Nop maps.One o n e = absurd (cc)
+undemanding _ m o n e = refl
+
+no_rm : (d : Bool) (r : Option RmRule) → d ≡ true → not (d && is_some r) ≡ true → r ≡ None
+no_rm d None e h = refl
+no_rm d (Some r) e h = absurd (never d e (grind arith))
+  where
+    never : (d : Bool) → d ≡ true → d ≡ false → ⊥
+    never d t f = cc
+
+no_bytes : (digit : Option ℕ) (bs : List ℕ) → rm_fits None digit bs ≡ true → bs ≡ []
+no_bytes digit [] h = refl
+no_bytes digit (b ∷ bs) h = absurd (cc)
+
+pub eight_aligned : (r : Row) → is_block r ≡ true → (r.span == 8) ≡ true → r.opcode % 8 ≡ 0
+eight_aligned r b s = grind (arith, nat_tests)
+
+pub exchange_eight : (x b : Bool) → (not x || b) ≡ true → b ≡ false → x ≡ false
+exchange_eight x b h e = grind arith
+
+opcode_again : (base o b : ℕ) → base % 8 ≡ 0 → base ≤ o → o < base + 8 → b < 2 → (base + (o % 8 + 8 * b) % 8 ≡ o) × ((o % 8 + 8 * b) / 8 ≡ b)
+opcode_again base o b z le lt small = (omega arith, omega arith)
+
+span_is : (s : ℕ) → (s == 8) ≡ true → s ≡ 8
+span_is s e = grind (arith, nat_tests)
+
+pub demand_met : (row : Row) (p : Parts) (next : ℕ) → IsRegular row → Fits row p
+    → is_met (b_demand row.op row.map (opcode_of row (fields row p next))) (b_needed row (fields row p next)) ≡ true
+demand_met row p next reg fit = elim (cases_Bool (is_some (b_demand row.op row.map 0x90))) [
+  | inr free ↦ undemanding row.op row.map (opcode_of row (fields row p next)) (b_needed row (fields row p next)) free
+  | inl asks ↦
+      (let none = no_rm (is_some (b_demand row.op row.map 0x90)) row.rm asks reg.demand in
+      let w = width_at row p in
+      let v = rm_width row.op w in
+      elim (cases_Bool (row.span == 8)) [
+        | inl y ↦
+            (let at : in_opcode row.rm row.span ≡ true = ap (λ k. in_opcode k row.span) none ∙ y in
+            let number : reg_number row.rm row.digit row.span p ≡ p.opcode % 8 + 8 * bit_b p.rex = ap (λ k. reg_number k row.digit row.span p) none ∙ if_true (row.span == 8) _ _ y in
+            let code : code_of (reg_of w p.rex (reg_number row.rm row.digit row.span p)) ≡ p.opcode % 8 + 8 * bit_b p.rex = code_again w p.rex _ ∙ number in
+            let le : row.opcode ≤ p.opcode = grind (arith, nat_tests, fit.opcode) in
+            let lt0 : p.opcode < row.opcode + row.span = grind (arith, nat_tests, fit.opcode) in
+            let lt : p.opcode < row.opcode + 8 = subst (λ k. p.opcode < row.opcode + k) (span_is row.span y) lt0 in
+            let o = opcode_again row.opcode p.opcode (bit_b p.rex) (eight_aligned row reg.block y) le lt (b_bit p.rex) in
+            let opcode : opcode_of row (fields row p next) ≡ p.opcode = ap (λ k. row.opcode + k) (if_true (in_opcode row.rm row.span) _ _ at ∙ ap (λ k. k % 8) code) ∙ o.0 in
+            let bit : b_needed row (fields row p next) ≡ bit_b p.rex = if_true (in_opcode row.rm row.span) _ _ at ∙ (ap (λ k. k / 8) code ∙ o.1) in
+            subst (λ k. is_met (b_demand row.op row.map k) (b_needed row (fields row p next)) ≡ true) (sym opcode)
+            (subst (λ k. is_met (b_demand row.op row.map p.opcode) k ≡ true) (sym bit) fit.b))
+        | inr n ↦
+            (let at : in_opcode row.rm row.span ≡ false = ap (λ k. in_opcode k row.span) none ∙ n in
+            let empty : p.rm ≡ [] = no_bytes row.digit p.rm (subst (λ k. rm_fits k row.digit p.rm ≡ true) none fit.rm) in
+            let place : rm_place row.rm v p.rex next p.rm ≡ places.Reg (regs.R 0) = ap (λ k. rm_place k v p.rex next p.rm) none ∙ ap (place_of v p.rex next) empty in
+            let bit : b_needed row (fields row p next) ≡ 0 = if_false (in_opcode row.rm row.span) _ _ at ∙ ap place_b place in
+            zero_met row.op row.map (opcode_of row (fields row p next)) (b_needed row (fields row p next)) bit (exchange_eight (is_exchange row.op) (row.span == 8) reg.exchange n))
+      ])
+]
+
+-- ---- all tests
+
+pub fields_had : (row : Row) (p : Parts) (next : ℕ) → is_regular row ≡ true → Fits row p → are_bytes p.rm ≡ true → are_bytes p.imm ≡ true → can_have row (fields row p next) ≡ true
+fields_had row p next regular fit rm imm =
+    let w = width_at row p in
+    can_of row (fields row p next) (record {
+      w = width_had row.size (bit_w p.rex) (times 0x66 p.prefixes);
+      reg = reg_of_parts row.rm row.digit row.span w p;
+      rm = place_had row.rm row.digit (rm_width row.op w) p.rex next p.rm fit.rm rm;
+      cond = cond_of_opcode row.span p.opcode;
+      imm = imm_had row.imm w next p.imm imm (rm_length (length p.imm) (imm_len row.imm w) fit.imm);
+      rep = rep_of_prefixes row.f3 (times 0xf3 p.prefixes);
+      rex = rex_joined row p next fit;
+      b = demand_met row p next (regular_of row regular) fit;
+    })

@@ -1,0 +1,112 @@
+use Rattle.std.proofs.Common.{ℕ, ◌≡◌, ◌==◌, ap, ◌∙◌, subst, arith, Bool, true, not, ◌&&◌, ◌||◌, Option, Some, None}
+use Rattle.std.specs.Prelude.{is_some, if◌then◌else◌}
+use Rattle.std.specs.Option.{option_and_then}
+use Rattle.std.proofs.lemmas.Bool.Decides.{nat_tests}
+use Rattle.std.proofs.lemmas.Option.{option_and_then_some}
+use Rattle.rz_num.specs.declared.width.Width.{Width}
+use Rattle.rz_isa.specs.declared.rows.OpMap.{OpMap}
+use Rattle.rz_isa.specs.declared.rows.RmRule.{RmRule}
+use Rattle.rz_isa.specs.declared.rows.ImmKind.{ImmKind}
+use Rattle.rz_isa.specs.declared.rows.ImmKind.TheVariants as imms
+use Rattle.rz_isa.specs.declared.rows.Row.{Row}
+use Rattle.rz_isa.specs.declared.rows.Letter.TheVariants as letters
+use Rattle.rz_isa.specs.declared.rows.Op.{Op}
+use Rattle.rz_isa.specs.declared.rows.Op.TheVariants as ops
+use Rattle.rz_isa.specs.declared.instruction.Insn.{Insn}
+use Rattle.rz_isa.specs.declared.spelled.Fields.{Fields}
+use Rattle.rz_isa.specs.Spelling.{b_demand}
+use Rattle.rz_isa.specs.Fields.{build_op}
+use Rattle.rz_isa.specs.Having.{has_imm, in_opcode, can_have}
+use Rattle.rz_isa.specs.Finding.{least, found_in, if_can, found}
+use Rattle.rz_isa.specs.Regular.{operands_apart, imm_suits, width_suits, stands_alone, is_exchange, is_block, digit_small, rule_small, is_regular}
+use Rattle.rz_isa.proofs.Built.{imm_small, through, built}
+use Rattle.rz_isa.proofs.Again.{had_of, can_of, again}
+use Rattle.rz_isa.proofs.Lesser.{below_had}
+
+-- ---- what is asked of a row, one by one
+
+pub record IsRegular (r : Row) : Type 0 where
+  pub operands : operands_apart r.op ≡ true
+  pub imm : imm_suits r.op r.imm ≡ true
+  pub width : width_suits r.op r.size ≡ true
+  pub alone : not (stands_alone r.imm && is_some r.rm) ≡ true
+  pub block : is_block r ≡ true
+  pub digit : digit_small r.digit ≡ true
+  pub rule : rule_small r.rm r.digit ≡ true
+  pub demand : not (is_some (b_demand r.op r.map 0x90) && is_some r.rm) ≡ true
+  pub exchange : (not (is_exchange r.op) || r.span == 8) ≡ true
+
+record Nine (a b c d e f g h i : Bool) : Type 0 where
+  one : a ≡ true
+  two : b ≡ true
+  three : c ≡ true
+  four : d ≡ true
+  five : e ≡ true
+  six : f ≡ true
+  seven : g ≡ true
+  eight : h ≡ true
+  nine : i ≡ true
+
+nine : (a b c d e f g h i : Bool) → (a && b && c && d && e && f && g && h && i) ≡ true → Nine a b c d e f g h i
+nine a b c d e f g h i x = record { one = grind arith; two = grind arith; three = grind arith; four = grind arith; five = grind arith; six = grind arith; seven = grind arith; eight = grind arith; nine = grind arith }
+
+pub regular_of : (r : Row) → is_regular r ≡ true → IsRegular r
+regular_of r h =
+    let n = nine (operands_apart r.op) (imm_suits r.op r.imm) (width_suits r.op r.size) (not (stands_alone r.imm && is_some r.rm)) (is_block r) (digit_small r.digit) (rule_small r.rm r.digit)
+    (not (is_some (b_demand r.op r.map 0x90) && is_some r.rm)) (not (is_exchange r.op) || r.span == 8) h in
+    record { operands = n.one; imm = n.two; width = n.three; alone = n.four; block = n.five; digit = n.six; rule = n.seven; demand = n.eight; exchange = n.nine }
+
+-- ---- immediates of counts, bit indexes and Ret
+
+pub imm_small_of : (op : Op) (k : Option ImmKind) (w : Width) (n : ℕ) → imm_suits op k ≡ true → has_imm k w n ≡ true → imm_small op n
+imm_small_of (ops.Shift o d c) None w n s h = grind (arith, nat_tests)
+imm_small_of (ops.Shift o d c) (Some imms.Ib) w n s h = grind (arith, nat_tests)
+imm_small_of (ops.Shift o d c) _ w n s h = absurd (cc)
+imm_small_of (ops.DoubleShift o d e c) None w n s h = grind (arith, nat_tests)
+imm_small_of (ops.DoubleShift o d e c) (Some imms.Ib) w n s h = grind (arith, nat_tests)
+imm_small_of (ops.DoubleShift o d e c) _ w n s h = absurd (cc)
+imm_small_of (ops.BitTest o d i) None w n s h = grind (arith, nat_tests)
+imm_small_of (ops.BitTest o d i) (Some imms.Ib) w n s h = grind (arith, nat_tests)
+imm_small_of (ops.BitTest o d i) _ w n s h = absurd (cc)
+imm_small_of ops.Ret None w n s h = grind (arith, nat_tests)
+imm_small_of ops.Ret (Some imms.Iw) w n s h = grind (arith, nat_tests)
+imm_small_of ops.Ret _ w n s h = absurd (cc)
+imm_small_of _ k w n s h = tt
+
+exchange_place : (op : Op) (m : OpMap) (r : Option RmRule) (span : ℕ) → not (is_some (b_demand op m 0x90) && is_some r) ≡ true → (not (is_exchange op) || span == 8) ≡ true
+    → is_exchange op ≡ true → in_opcode r span ≡ true
+exchange_place (ops.Xchg letters.O letters.A) m None span d x e = x
+exchange_place (ops.Xchg letters.O letters.A) m (Some r) span d x e = absurd (cc)
+exchange_place _ m r span d x e = absurd (cc)
+
+-- ---- what is found builds the instruction, and what builds it is found
+
+pub record Tested (row : Row) (x : Insn) (g : Fields) : Type 0 where
+  pub had : can_have row g ≡ true
+  pub built : build_op row.op g ≡ x
+
+pub found_builds : (row : Row) (x : Insn) (g : Fields) → is_regular row ≡ true → found row x ≡ Some g → Tested row x g
+found_builds row x g reg e =
+    let r = regular_of row reg in
+    option_and_then_some (if_can row) (found_in row.op x (least row)) g e (λ m em eg.
+    let t = through (can_have row m) m g eg in
+    let had : can_have row g ≡ true = subst (λ k. can_have row k ≡ true) t.1 t.0 in
+    let h = had_of row g had in
+    let em2 : found_in row.op x (least row) ≡ Some g = em ∙ ap Some t.1 in
+    record { had = had; built = built row.op x (least row) g r.operands (imm_small_of row.op row.imm g.w g.imm r.imm h.imm) em2 })
+
+pub builds_found : (row : Row) (f : Fields) → is_regular row ≡ true → can_have row f ≡ true → (g : Fields) × (found row (build_op row.op f) ≡ Some g)
+builds_found row f reg had =
+    let r = regular_of row reg in
+    let h = had_of row f had in
+    let a = again row.op row f (record {
+      w = h.w;
+      cond = h.cond;
+      rep = h.rep;
+      small = imm_small_of row.op row.imm f.w f.imm r.imm h.imm;
+      single = r.width;
+      exchange = exchange_place row.op row.map row.rm row.span r.demand r.exchange;
+      b = h.b;
+    }) in
+    let can = can_of row a.g (below_had row a.g f h a.below a.b) in
+    (a.g, ap (option_and_then (if_can row)) a.found ∙ ap (λ k. if k then Some a.g else None) can)

@@ -1,0 +1,16 @@
+pub mod Front
+pub mod Exclusion
+pub mod OneRow
+pub mod Equal
+pub mod Built
+pub mod Again
+pub mod Lesser
+pub mod Inverse
+pub mod Numbers
+pub mod Complete
+pub mod Read
+pub mod Sound
+pub mod Parts
+pub mod Whole
+pub mod Choice
+pub mod Served

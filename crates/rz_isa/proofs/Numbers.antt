@@ -1,0 +1,137 @@
+use Rattle.std.proofs.Common.{ℕ, pos, negsuc, ◌≡◌, ◌+◌, ◌-◌, ◌*◌, ◌%◌, ◌^◌, ◌<◌, ◌≤◌, ◌-ℤ◌, refl, ap, sym, ◌∙◌, subst, arith, List, [], ◌∷◌, length, true, inl, inr}
+use Rattle.std.specs.Prelude.{nat_lt, if◌then◌else◌}
+use Rattle.std.proofs.lemmas.Bool.{cases_Bool}
+use Rattle.std.proofs.lemmas.Bool.Decides.{nat_tests}
+use Rattle.std.proofs.lemmas.Int.{ints}
+use Rattle.rz_num.specs.declared.width.Width.{Width}
+use Rattle.rz_num.specs.declared.width.Width.TheVariants.{W8, W16, W32, W64}
+use Rattle.rz_num.specs.Width.{size}
+use Rattle.rz_isa.specs.Number.{are_bytes, number, numbers, is_positive, signed, extended}
+use Rattle.rz_isa.specs.Spelling.{full_len}
+use Rattle.rz_isa.specs.Having.{is_disp, is_extended}
+
+-- ---- the number of bytes is below the number of such numbers
+
+pub number_less : (bs : List ℕ) → are_bytes bs ≡ true → number bs < numbers bs
+number_less [] h = omega arith
+number_less (b ∷ bs) h =
+    let lt : b < 256 = grind (arith, nat_tests) in
+    let rest = number_less bs (grind arith) in
+    omega arith
+
+pub numbers_0 : (bs : List ℕ) → length bs ≡ 0 → numbers bs ≡ 1
+numbers_0 [] e = refl
+numbers_0 (a ∷ bs) e = absurd (omega arith)
+
+pub numbers_1 : (bs : List ℕ) → length bs ≡ 1 → numbers bs ≡ 2 ^ 8
+numbers_1 [] e = absurd (omega arith)
+numbers_1 (a ∷ bs) e = ap (λ k. 256 * k) (numbers_0 bs (omega arith))
+
+pub numbers_2 : (bs : List ℕ) → length bs ≡ 2 → numbers bs ≡ 2 ^ 16
+numbers_2 [] e = absurd (omega arith)
+numbers_2 (a ∷ bs) e = ap (λ k. 256 * k) (numbers_1 bs (omega arith))
+
+pub numbers_3 : (bs : List ℕ) → length bs ≡ 3 → numbers bs ≡ 2 ^ 24
+numbers_3 [] e = absurd (omega arith)
+numbers_3 (a ∷ bs) e = ap (λ k. 256 * k) (numbers_2 bs (omega arith))
+
+pub numbers_4 : (bs : List ℕ) → length bs ≡ 4 → numbers bs ≡ 2 ^ 32
+numbers_4 [] e = absurd (omega arith)
+numbers_4 (a ∷ bs) e = ap (λ k. 256 * k) (numbers_3 bs (omega arith))
+
+pub numbers_5 : (bs : List ℕ) → length bs ≡ 5 → numbers bs ≡ 2 ^ 40
+numbers_5 [] e = absurd (omega arith)
+numbers_5 (a ∷ bs) e = ap (λ k. 256 * k) (numbers_4 bs (omega arith))
+
+pub numbers_6 : (bs : List ℕ) → length bs ≡ 6 → numbers bs ≡ 2 ^ 48
+numbers_6 [] e = absurd (omega arith)
+numbers_6 (a ∷ bs) e = ap (λ k. 256 * k) (numbers_5 bs (omega arith))
+
+pub numbers_7 : (bs : List ℕ) → length bs ≡ 7 → numbers bs ≡ 2 ^ 56
+numbers_7 [] e = absurd (omega arith)
+numbers_7 (a ∷ bs) e = ap (λ k. 256 * k) (numbers_6 bs (omega arith))
+
+pub numbers_8 : (bs : List ℕ) → length bs ≡ 8 → numbers bs ≡ 2 ^ 64
+numbers_8 [] e = absurd (omega arith)
+numbers_8 (a ∷ bs) e = ap (λ k. 256 * k) (numbers_7 bs (omega arith))
+
+pub numbers_small : (bs : List ℕ) → length bs ≤ 4 → numbers bs ≤ 2 ^ 32
+numbers_small [] h = omega arith
+numbers_small (a ∷ []) h = omega arith
+numbers_small (a ∷ b ∷ []) h = omega arith
+numbers_small (a ∷ b ∷ c ∷ []) h = omega arith
+numbers_small (a ∷ b ∷ c ∷ d ∷ []) h = omega arith
+numbers_small (a ∷ b ∷ c ∷ d ∷ e ∷ bs) h = absurd (omega arith)
+
+pub numbers_full : (w : Width) (bs : List ℕ) → length bs ≡ full_len w → numbers bs ≡ size w
+numbers_full W8 bs e = numbers_1 bs e
+numbers_full W16 bs e = numbers_2 bs e
+numbers_full W32 bs e = numbers_4 bs e
+numbers_full W64 bs e = numbers_8 bs e
+
+-- ---- a signed number of at most four bytes has 32 bits
+
+-- a number below m minus m
+pub minus_is : (n m : ℕ) → n < m → pos n -ℤ pos m ≡ negsuc (m - 1 - n)
+minus_is n m lt = omega (arith, ints)
+
+signed_disp : (n m : ℕ) → n < m → m ≤ 2 ^ 32 → is_disp (if nat_lt (2 * n) m then pos n else pos n -ℤ pos m) ≡ true
+signed_disp n m lt small = elim (cases_Bool (nat_lt (2 * n) m)) [
+  | inl y ↦
+      (let l : nat_lt n (2 ^ 31) ≡ true = grind (arith, nat_tests) in
+      ap (λ k. is_disp (if k then pos n else pos n -ℤ pos m)) y ∙ l)
+  | inr k ↦
+      (let l : nat_lt (m - 1 - n) (2 ^ 31) ≡ true = grind (arith, nat_tests) in
+      ap (λ k. is_disp (if k then pos n else pos n -ℤ pos m)) k ∙ (ap is_disp (minus_is n m lt) ∙ l))
+]
+
+pub signed_is_disp : (bs : List ℕ) → are_bytes bs ≡ true → length bs ≤ 4 → is_disp (signed bs) ≡ true
+signed_is_disp bs h short = signed_disp (number bs) (numbers bs) (number_less bs h) (numbers_small bs short)
+
+-- ---- sign-extended numbers
+
+pub extended_low : (half top n k : ℕ) → n ≡ k → k < half → is_extended half top n ≡ true
+extended_low half top n k e lt = grind (arith, nat_tests)
+
+pub extended_high : (half top n k : ℕ) → n ≡ k → top - half ≤ k → k < top → is_extended half top n ≡ true
+extended_high half top n k e le lt = grind (arith, nat_tests)
+
+pub extended_byte : (bs : List ℕ) (w : Width) → are_bytes bs ≡ true → length bs ≡ 1 → is_extended (2 ^ 7) (size w) (extended bs % size w) ≡ true
+extended_byte bs w h one =
+    let m = numbers_1 bs one in
+    let lt = number_less bs h in
+    elim (cases_Bool (is_positive bs)) [
+      | inl y ↦ subst (λ k. is_extended (2 ^ 7) (size w) ((if k then number bs else number bs + (2 ^ 64 - numbers bs)) % size w) ≡ true) (sym y) (low w (number bs) (grind (arith, nat_tests)))
+      | inr n ↦
+          subst (λ k. is_extended (2 ^ 7) (size w) ((if k then number bs else number bs + (2 ^ 64 - numbers bs)) % size w) ≡ true) (sym n)
+          (subst (λ k. is_extended (2 ^ 7) (size w) ((number bs + (2 ^ 64 - k)) % size w) ≡ true) (sym m) (high w (number bs) (grind (arith, nat_tests)) (omega arith)))
+    ]
+  where
+    low : (w : Width) (n : ℕ) → n < 2 ^ 7 → is_extended (2 ^ 7) (size w) (n % size w) ≡ true
+    low W8 n lt = extended_low (2 ^ 7) (2 ^ 8) (n % 2 ^ 8) n (omega arith) lt
+    low W16 n lt = extended_low (2 ^ 7) (2 ^ 16) (n % 2 ^ 16) n (omega arith) lt
+    low W32 n lt = extended_low (2 ^ 7) (2 ^ 32) (n % 2 ^ 32) n (omega arith) lt
+    low W64 n lt = extended_low (2 ^ 7) (2 ^ 64) (n % 2 ^ 64) n (omega arith) lt
+
+    high : (w : Width) (n : ℕ) → 2 ^ 7 ≤ n → n < 2 ^ 8 → is_extended (2 ^ 7) (size w) ((n + (2 ^ 64 - 2 ^ 8)) % size w) ≡ true
+    high W8 n le lt = extended_high (2 ^ 7) (2 ^ 8) ((n + (2 ^ 64 - 2 ^ 8)) % 2 ^ 8) (n + (2 ^ 8 - 2 ^ 8)) (omega arith) (omega arith) (omega arith)
+    high W16 n le lt = extended_high (2 ^ 7) (2 ^ 16) ((n + (2 ^ 64 - 2 ^ 8)) % 2 ^ 16) (n + (2 ^ 16 - 2 ^ 8)) (omega arith) (omega arith) (omega arith)
+    high W32 n le lt = extended_high (2 ^ 7) (2 ^ 32) ((n + (2 ^ 64 - 2 ^ 8)) % 2 ^ 32) (n + (2 ^ 32 - 2 ^ 8)) (omega arith) (omega arith) (omega arith)
+    high W64 n le lt = extended_high (2 ^ 7) (2 ^ 64) ((n + (2 ^ 64 - 2 ^ 8)) % 2 ^ 64) (n + (2 ^ 64 - 2 ^ 8)) (omega arith) (omega arith) (omega arith)
+
+pub extended_four : (bs : List ℕ) → are_bytes bs ≡ true → length bs ≡ 4 → is_extended (2 ^ 31) (2 ^ 64) (extended bs % 2 ^ 64) ≡ true
+extended_four bs h four =
+    let m = numbers_4 bs four in
+    let lt = number_less bs h in
+    elim (cases_Bool (is_positive bs)) [
+      | inl y ↦ subst (λ k. is_extended (2 ^ 31) (2 ^ 64) ((if k then number bs else number bs + (2 ^ 64 - numbers bs)) % 2 ^ 64) ≡ true) (sym y) (low (number bs) (grind (arith, nat_tests)))
+      | inr n ↦
+          subst (λ k. is_extended (2 ^ 31) (2 ^ 64) ((if k then number bs else number bs + (2 ^ 64 - numbers bs)) % 2 ^ 64) ≡ true) (sym n)
+          (subst (λ k. is_extended (2 ^ 31) (2 ^ 64) ((number bs + (2 ^ 64 - k)) % 2 ^ 64) ≡ true) (sym m) (high (number bs) (grind (arith, nat_tests)) (omega arith)))
+    ]
+  where
+    low : (n : ℕ) → n < 2 ^ 31 → is_extended (2 ^ 31) (2 ^ 64) (n % 2 ^ 64) ≡ true
+    low n lt = extended_low (2 ^ 31) (2 ^ 64) (n % 2 ^ 64) n (omega arith) lt
+
+    high : (n : ℕ) → 2 ^ 31 ≤ n → n < 2 ^ 32 → is_extended (2 ^ 31) (2 ^ 64) ((n + (2 ^ 64 - 2 ^ 32)) % 2 ^ 64) ≡ true
+    high n le lt = extended_high (2 ^ 31) (2 ^ 64) ((n + (2 ^ 64 - 2 ^ 32)) % 2 ^ 64) (n + (2 ^ 64 - 2 ^ 32)) (omega arith) (omega arith) (omega arith)

@@ -1,0 +1,384 @@
+use Rattle.std.proofs.Common.{ℕ, ◌≡◌, ◌+◌, ◌/◌, ◌%◌, ◌^◌, ◌<◌, ◌≤◌, ◌==◌, refl, ap, sym, ◌∙◌, subst, arith, List, [], ◌∷◌, ◌++◌, length, Bool, true, false, not, ◌&&◌, inl, inr, Option, Some, None, length-append}
+use Rattle.std.specs.Prelude.{nat_lt, nat_le, is_some, if◌then◌else◌}
+use Rattle.std.proofs.lemmas.Bool.{cases_Bool}
+use Rattle.std.proofs.lemmas.Bool.Decides.{nat_tests}
+use Rattle.std.proofs.lemmas.Grind.{common_steps}
+use Rattle.rz_num.specs.declared.width.Width.{Width}
+use Rattle.rz_num.specs.declared.width.Width.TheVariants.{W8, W16, W32, W64}
+use Rattle.rz_isa.specs.declared.rows.OpMap.{OpMap}
+use Rattle.rz_isa.specs.declared.rows.OpMap.TheVariants as maps
+use Rattle.rz_isa.specs.declared.rows.RmRule.{RmRule}
+use Rattle.rz_isa.specs.declared.rows.RmRule.TheVariants as rules
+use Rattle.rz_isa.specs.declared.rows.ImmKind.{ImmKind}
+use Rattle.rz_isa.specs.declared.rows.ImmKind.TheVariants as imms
+use Rattle.rz_isa.specs.declared.rows.Row.{Row}
+use Rattle.rz_isa.specs.declared.instruction.Place.{Place}
+use Rattle.rz_isa.specs.declared.instruction.Place.TheVariants as places
+use Rattle.rz_isa.specs.declared.spelled.Fields.{Fields}
+use Rattle.rz_isa.specs.Number.{are_bytes}
+use Rattle.rz_isa.specs.Spelling.{Parts, bytes_of, rex_bytes, escape, is_met, b_demand, w_demand, opcode_fits, rm_fits, rm_len, disp_len, second, width_at, imm_len, rex_fits, Fits, SpelledBy}
+use Rattle.rz_isa.specs.Fields.{reg_of, rm_place, rm_width, reg_number, imm_of, rep_of, fields}
+use Rattle.rz_isa.specs.Having.{code_of, in_opcode, has_cond, has_imm, has_place, is_half, opcode_of, is_extended, can_have}
+use Rattle.rz_isa.specs.Canonical.{offset, stands_f3, prefixes_for, rex_for, rm_bytes, imm_value, parts_for, place_reaches, imm_reaches, reaches}
+use Rattle.rz_isa.specs.Regular.{is_block, stands_alone, is_regular}
+use Rattle.rz_isa.specs.Spells.{CanHave}
+use Rattle.rz_isa.proofs.Again.{Had, had_of}
+use Rattle.rz_isa.proofs.Inverse.{IsRegular, regular_of}
+use Rattle.rz_isa.proofs.Complete.{if_true, if_false, if_both, eight_aligned, disp_short, fields_had}
+use Rattle.rz_isa.proofs.Read.{little_bytes, little_length}
+use Rattle.rz_isa.proofs.Sound.{imm_again}
+use Rattle.rz_isa.proofs.Parts.{prefixes_ok, times_f3, rep_again, w_is, width_read, bits, reg_field_suits, place_suits, RmGiven, rm_read}
+
+-- The canonical parts of fields are spelled by their row and read as the fields.
+
+and_both : (a b : Bool) → a ≡ true → b ≡ true → (a && b) ≡ true
+and_both a b ea eb = grind arith
+
+reach_parts : (a b : Bool) → (a && b) ≡ true → (a ≡ true) × (b ≡ true)
+reach_parts a b h = (grind arith, grind arith)
+
+-- ---- the opcode
+
+eight_none : (r : Row) → is_block r ≡ true → (r.span == 8) ≡ true → in_opcode r.rm r.span ≡ true
+eight_none r b s = by r.rm refl
+  where
+    none_then : (x : Option RmRule) → x ≡ r.rm → is_block r ≡ true → (r.span == 8) ≡ true → in_opcode x r.span ≡ true
+    none_then None e b s = s
+    none_then (Some k) e b s = absurd (some_not k e b s)
+      where
+        some_not : (k : RmRule) → Some k ≡ r.rm → is_block r ≡ true → (r.span == 8) ≡ true → ⊥
+        some_not k e b s = grind (arith, nat_tests)
+
+    by : (x : Option RmRule) → x ≡ r.rm → in_opcode r.rm r.span ≡ true
+    by x e = none_then r.rm refl b s
+
+not_in_opcode : (rm : Option RmRule) (span : ℕ) → (span == 8) ≡ false → in_opcode rm span ≡ false
+not_in_opcode None span e = e
+not_in_opcode (Some k) span e = refl
+
+-- 1, 8 or 16 opcodes
+spans : (r : Row) → is_block r ≡ true → (r.span == 8) ≡ false → (r.span == 16) ≡ false → r.span ≡ 1
+spans r b e s = grind (arith, nat_tests)
+
+sixteen_aligned : (r : Row) → is_block r ≡ true → (r.span == 16) ≡ true → r.opcode % 16 ≡ 0
+sixteen_aligned r b s = grind (arith, nat_tests)
+
+opcode_byte : (r : Row) → is_block r ≡ true → r.opcode < 256
+opcode_byte r b = grind (arith, nat_tests)
+
+cond_small : (span c : ℕ) → has_cond span c ≡ true → (span == 16) ≡ true → c < 16
+cond_small span c h s = grind (arith, nat_tests)
+
+cond_zero : (span c : ℕ) → has_cond span c ≡ true → (span == 16) ≡ false → c ≡ 0
+cond_zero span c h s = grind (arith, nat_tests)
+
+is_number : (n k : ℕ) → (n == k) ≡ true → n ≡ k
+is_number n k e = grind (arith, nat_tests)
+
+within : (a s o : ℕ) → a ≤ o → o < a + s → (nat_le a o && nat_lt o (a + s)) ≡ true
+within a s o le lt = grind (arith, nat_tests)
+
+pub record OpcodeRead (row : Row) (f : Fields) : Type 0 where
+  pub fits : opcode_fits row (opcode_of row f) ≡ true
+  pub cond : (if row.span == 16 then opcode_of row f % 16 else 0) ≡ f.cond
+  pub byte : opcode_of row f < 256
+
+pub opcode_read : (row : Row) (f : Fields) → IsRegular row → Had row f → OpcodeRead row f
+opcode_read row f reg h = elim (cases_Bool (row.span == 8)) [
+  | inl y ↦
+      (let at = eight_none row reg.block y in
+      let s = is_number row.span 8 y in
+      let o : opcode_of row f ≡ row.opcode + code_of f.reg % 8 = ap (λ k. row.opcode + k) (if_true (in_opcode row.rm row.span) _ _ at) in
+      let z = eight_aligned row reg.block y in
+      let low = opcode_byte row reg.block in
+      let not16 : (row.span == 16) ≡ false = grind (arith, nat_tests) in
+      record {
+        fits = within row.opcode row.span (opcode_of row f) (omega arith) (omega arith);
+        cond = if_false (row.span == 16) _ _ not16 ∙ sym (cond_zero row.span f.cond h.cond not16);
+        byte = omega arith;
+      })
+  | inr n ↦
+      (let at = not_in_opcode row.rm row.span n in
+      let o : opcode_of row f ≡ row.opcode + f.cond = ap (λ k. row.opcode + k) (if_false (in_opcode row.rm row.span) _ _ at) in
+      let low = opcode_byte row reg.block in
+      elim (cases_Bool (row.span == 16)) [
+        | inl y ↦
+            (let s = is_number row.span 16 y in
+            let c = cond_small row.span f.cond h.cond y in
+            let z = sixteen_aligned row reg.block y in
+            record {
+              fits = within row.opcode row.span (opcode_of row f) (omega arith) (omega arith);
+              cond = if_true (row.span == 16) _ _ y ∙ omega arith;
+              byte = omega arith;
+            })
+        | inr k ↦
+            (let s = spans row reg.block n k in
+            let c = cond_zero row.span f.cond h.cond k in
+            record {
+              fits = within row.opcode row.span (opcode_of row f) (omega arith) (omega arith);
+              cond = if_false (row.span == 16) _ _ k ∙ sym c;
+              byte = omega arith;
+            })
+      ])
+]
+
+-- ---- all parts
+
+pub record PartsRead (row : Row) (f : Fields) (next : ℕ) : Type 0 where
+  pub fits : Fits row (parts_for row f next)
+  pub same : fields row (parts_for row f next) next ≡ f
+  pub rm : are_bytes (rm_bytes row.rm row.digit (code_of f.reg) next f.rm) ≡ true
+
+pub rm_given : (row : Row) (f : Fields) (next : ℕ) → IsRegular row → Had row f → next < 2 ^ 64 → place_reaches next f.rm ≡ true
+    → RmGiven row.rm row.digit row.span row.opcode (rm_width row.op f.w) f.w (rex_for row f) next f.rm f.reg (opcode_of row f) f.cond
+rm_given row f next reg h ln near =
+    let b = bits row f h in
+    record {
+      next_low = ln;
+      digit_low = reg.digit;
+      rule_low = reg.rule;
+      aligned = λ y. eight_aligned row reg.block y;
+      place = h.rm;
+      reg = h.reg;
+      b = b.b;
+      x = b.x;
+      r_bit = b.r;
+      reg_suits = reg_field_suits row f h;
+      place_suits = λ q e. place_suits row f q h e;
+      near = near;
+      opcode = refl;
+    }
+
+same_length : (a b : ℕ) → a ≡ b → (a == b) ≡ true
+same_length a b e = grind (arith, nat_tests)
+
+pub parts_read : (row : Row) (f : Fields) (next : ℕ) → is_regular row ≡ true → can_have row f ≡ true → next < 2 ^ 64 → reaches row f next ≡ true → PartsRead row f next
+parts_read row f next regular can ln near =
+    let reg = regular_of row regular in
+    let h = had_of row f can in
+    let r = reach_parts (place_reaches next f.rm) (imm_reaches row.imm next f.imm) near in
+    let b = bits row f h in
+    let m = rm_read row.rm row.digit row.span row.opcode (rm_width row.op f.w) f.w (rex_for row f) next f.rm f.reg (opcode_of row f) f.cond (rm_given row f next reg h ln r.0) in
+    let o = opcode_read row f reg h in
+    let p = parts_for row f next in
+    let ew : width_at row p ≡ f.w = width_read row f h in
+    let ereg = ap (λ k. reg_of k p.rex (reg_number row.rm row.digit row.span p)) ew ∙ m.reg p.prefixes p.imm in
+    let erm = ap (λ k. rm_place row.rm (rm_width row.op k) p.rex next p.rm) ew ∙ m.place in
+    let eimm = ap (λ k. imm_of row.imm k next p.imm) ew ∙ imm_again row.imm f.w next f.imm ln h.imm r.1 in
+    let erep = ap (rep_of row.f3) (times_f3 (is_half f.w) (stands_f3 row.f3 f.rep)) ∙ rep_again row.f3 f.rep h.rep in
+    record {
+      fits = record {
+        prefixes = prefixes_ok row f h;
+        rex = b.fits;
+        w = subst (λ k. is_met (w_demand row.size) k ≡ true) (sym b.w) (w_is row.size f.w h.w);
+        opcode = o.fits;
+        b = subst (λ k. is_met (b_demand row.op row.map (opcode_of row f)) k ≡ true) (sym b.b) h.b;
+        rm = m.fits;
+        imm = same_length (length p.imm) (imm_len row.imm (width_at row p)) (little_length (imm_len row.imm f.w) (imm_value row.imm next f.imm) ∙ ap (imm_len row.imm) (sym ew));
+      };
+      same = λ i. record { w = ew i; reg = ereg i; rm = erm i; cond = o.cond i; imm = eimm i; rep = erep i };
+      rm = m.bytes;
+    }
+
+-- ---- the bytes
+
+bytes_append : (xs ys : List ℕ) → are_bytes xs ≡ true → are_bytes ys ≡ true → are_bytes (xs ++ ys) ≡ true
+bytes_append [] ys hx hy = hy
+bytes_append (x ∷ xs) ys hx hy = (let t = reach_parts (nat_lt x 256) (are_bytes xs) hx in and_both _ _ t.0 (bytes_append xs ys t.1 hy))
+
+prefix_bytes : (a b : Bool) → are_bytes (prefixes_for a b) ≡ true
+prefix_bytes true true = refl
+prefix_bytes true false = refl
+prefix_bytes false true = refl
+prefix_bytes false false = refl
+
+prefix_short : (a b : Bool) → length (prefixes_for a b) ≤ 2
+prefix_short true true = omega arith
+prefix_short true false = omega arith
+prefix_short false true = omega arith
+prefix_short false false = omega arith
+
+rex_are : (rex : Option ℕ) → rex_fits rex ≡ true → are_bytes (rex_bytes rex) ≡ true
+rex_are None h = refl
+rex_are (Some b) h = (let lt : nat_lt b 256 ≡ true = grind (arith, nat_tests) in and_both _ _ lt refl)
+
+rex_short : (rex : Option ℕ) → length (rex_bytes rex) ≤ 1
+rex_short None = omega arith
+rex_short (Some b) = omega arith
+
+escape_are : (m : OpMap) → are_bytes (escape m) ≡ true
+escape_are maps.One = refl
+escape_are maps.Two = refl
+
+escape_short : (m : OpMap) → length (escape m) ≤ 1
+escape_short maps.One = omega arith
+escape_short maps.Two = omega arith
+
+rm_len_short : (m s : ℕ) → rm_len m s ≤ 6
+rm_len_short m s = if_both (λ k. k ≤ 6) (m / 64 == 3) 1 (if m % 8 == 4 then 2 + disp_len (m / 64) (s % 8) else 1 + disp_len (m / 64) (m % 8)) (λ _. omega arith)
+    (λ _. if_both (λ k. k ≤ 6) (m % 8 == 4) (2 + disp_len (m / 64) (s % 8)) (1 + disp_len (m / 64) (m % 8)) (λ _. omega (arith, disp_short (m / 64) (s % 8))) (λ _. omega (arith, disp_short (m / 64) (m % 8))))
+
+rm_short : (rule : RmRule) (digit : Option ℕ) (bs : List ℕ) → rm_fits (Some rule) digit bs ≡ true → length bs ≤ 6
+rm_short rule digit [] h = omega arith
+rm_short rule digit (m ∷ rest) h = (let e : 1 + length rest ≡ rm_len m (second (m ∷ rest)) = grind (arith, nat_tests) in let s = rm_len_short m (second (m ∷ rest)) in omega arith)
+
+imm_full : (k : Option ImmKind) (w : Width) → imm_len k w ≤ 8
+imm_full None w = omega arith
+imm_full (Some imms.Ib) w = omega arith
+imm_full (Some imms.Ibs) w = omega arith
+imm_full (Some imms.Iw) w = omega arith
+imm_full (Some imms.Iz) W8 = omega arith
+imm_full (Some imms.Iz) W16 = omega arith
+imm_full (Some imms.Iz) W32 = omega arith
+imm_full (Some imms.Iz) W64 = omega arith
+imm_full (Some imms.Iv) W8 = omega arith
+imm_full (Some imms.Iv) W16 = omega arith
+imm_full (Some imms.Iv) W32 = omega arith
+imm_full (Some imms.Iv) W64 = omega arith
+imm_full (Some imms.J8) w = omega arith
+imm_full (Some imms.J32) w = omega arith
+
+imm_beside : (k : Option ImmKind) (w : Width) → stands_alone k ≡ false → imm_len k w ≤ 4
+imm_beside None w h = omega arith
+imm_beside (Some imms.Ib) w h = omega arith
+imm_beside (Some imms.Ibs) w h = omega arith
+imm_beside (Some imms.Iw) w h = omega arith
+imm_beside (Some imms.Iz) W8 h = omega arith
+imm_beside (Some imms.Iz) W16 h = omega arith
+imm_beside (Some imms.Iz) W32 h = omega arith
+imm_beside (Some imms.Iz) W64 h = omega arith
+imm_beside (Some imms.Iv) w h = absurd (cc)
+imm_beside (Some imms.J8) w h = absurd (cc)
+imm_beside (Some imms.J32) w h = absurd (cc)
+
+beside : (a : Bool) → not (a && true) ≡ true → a ≡ false
+beside a h = grind arith
+
+tail_short : (rm : Option RmRule) (digit : Option ℕ) (k : Option ImmKind) (w : Width) (bs : List ℕ) → not (stands_alone k && is_some rm) ≡ true → rm_fits rm digit bs ≡ true → length bs + imm_len k w ≤ 10
+tail_short None digit k w [] alone fit = omega (arith, imm_full k w)
+tail_short None digit k w (m ∷ rest) alone fit = absurd (cc)
+tail_short (Some rule) digit k w bs alone fit = omega (arith, rm_short rule digit bs fit, imm_beside k w (beside (stands_alone k) alone))
+
+pub length_of : (row : Row) (p : Parts) → length (bytes_of row p) ≡ length p.prefixes + (length (rex_bytes p.rex) + (length (escape row.map) + (1 + (length p.rm + length p.imm))))
+length_of row p = grind (arith, length-append, common_steps)
+
+short_test : (n : ℕ) → n ≤ 15 → nat_le n 15 ≡ true
+short_test n h = grind (arith, nat_tests)
+
+byte_test : (n : ℕ) → n < 256 → nat_lt n 256 ≡ true
+byte_test n h = grind (arith, nat_tests)
+
+pub spelled_for : (row : Row) (f : Fields) (next : ℕ) → is_regular row ≡ true → can_have row f ≡ true → next < 2 ^ 64 → reaches row f next ≡ true
+    → SpelledBy row (parts_for row f next) (bytes_of row (parts_for row f next))
+spelled_for row f next regular can ln near =
+    let reg = regular_of row regular in
+    let h = had_of row f can in
+    let r = parts_read row f next regular can ln near in
+    let b = bits row f h in
+    let o = opcode_read row f reg h in
+    let p = parts_for row f next in
+    let li = little_length (imm_len row.imm f.w) (imm_value row.imm next f.imm) in
+    let tail = tail_short row.rm row.digit row.imm f.w p.rm reg.alone r.fits.rm in
+    let a = prefix_short (is_half f.w) (stands_f3 row.f3 f.rep) in
+    let c = rex_short p.rex in
+    let d = escape_short row.map in
+    let l = length_of row p in
+    let short : length (bytes_of row p) ≤ 15 = sums (length p.prefixes) (length (rex_bytes p.rex)) (length (escape row.map)) (length p.rm) (length p.imm) (imm_len row.imm f.w) (length (bytes_of row p)) l a c d li tail in
+    record {
+      bytes = refl;
+      fits = r.fits;
+      all = bytes_append p.prefixes _ (prefix_bytes (is_half f.w) (stands_f3 row.f3 f.rep))
+          (bytes_append (rex_bytes p.rex) _ (rex_are p.rex b.fits)
+          (bytes_append (escape row.map) _ (escape_are row.map)
+          (and_both _ _ (byte_test p.opcode o.byte) (bytes_append p.rm p.imm r.rm (little_bytes (imm_len row.imm f.w) (imm_value row.imm next f.imm))))));
+      short = short_test (length (bytes_of row p)) short;
+    }
+  where
+    sums : (a b c d e k n : ℕ) → n ≡ a + (b + (c + (1 + (d + e)))) → a ≤ 2 → b ≤ 1 → c ≤ 1 → e ≡ k → d + k ≤ 10 → n ≤ 15
+    sums a b c d e k n en ha hb hc he ht = omega arith
+
+-- ---- an address from which everything is in reach
+
+pub record Home (p : Place) (k : Option ImmKind) (n : ℕ) : Type 0 where
+  pub next : ℕ
+  pub low : next < 2 ^ 64
+  pub near : (place_reaches next p && imm_reaches k next n) ≡ true
+
+offset_self : (a : ℕ) → a < 2 ^ 64 → offset a a ≡ 0
+offset_self a lt = omega arith
+
+self_4 : (a : ℕ) → a < 2 ^ 64 → is_extended (2 ^ 31) (2 ^ 64) (offset a a) ≡ true
+self_4 a lt = ap (is_extended (2 ^ 31) (2 ^ 64)) (offset_self a lt)
+
+self_1 : (a : ℕ) → a < 2 ^ 64 → is_extended (2 ^ 7) (2 ^ 64) (offset a a) ≡ true
+self_1 a lt = ap (is_extended (2 ^ 7) (2 ^ 64)) (offset_self a lt)
+
+not_true : (a : Bool) → a ≡ true → a ≡ false → ⊥
+not_true a t f = cc
+
+at_home : (k : Option ImmKind) (a n : ℕ) → a < 2 ^ 64 → stands_alone k ≡ false → Home (places.At a) k n
+at_home None a n lt h = record { next = a; low = lt; near = and_both _ _ (self_4 a lt) refl }
+at_home (Some imms.Ib) a n lt h = record { next = a; low = lt; near = and_both _ _ (self_4 a lt) refl }
+at_home (Some imms.Ibs) a n lt h = record { next = a; low = lt; near = and_both _ _ (self_4 a lt) refl }
+at_home (Some imms.Iw) a n lt h = record { next = a; low = lt; near = and_both _ _ (self_4 a lt) refl }
+at_home (Some imms.Iz) a n lt h = record { next = a; low = lt; near = and_both _ _ (self_4 a lt) refl }
+at_home (Some imms.Iv) a n lt h = absurd (cc)
+at_home (Some imms.J8) a n lt h = absurd (cc)
+at_home (Some imms.J32) a n lt h = absurd (cc)
+
+-- a place that isn't named by its address is in reach from everywhere
+free_home : (p : Place) (k : Option ImmKind) (w : Width) (n : ℕ) → ((next : ℕ) → place_reaches next p ≡ true) → has_imm k w n ≡ true → Home p k n
+free_home p (Some imms.J8) w n free h = (let lt : n < 2 ^ 64 = grind (arith, nat_tests) in record { next = n; low = lt; near = and_both _ _ (free n) (self_1 n lt) })
+free_home p (Some imms.J32) w n free h = (let lt : n < 2 ^ 64 = grind (arith, nat_tests) in record { next = n; low = lt; near = and_both _ _ (free n) (self_4 n lt) })
+free_home p None w n free h = record { next = 0; low = omega arith; near = and_both _ _ (free 0) refl }
+free_home p (Some imms.Ib) w n free h = record { next = 0; low = omega arith; near = and_both _ _ (free 0) refl }
+free_home p (Some imms.Ibs) w n free h = record { next = 0; low = omega arith; near = and_both _ _ (free 0) refl }
+free_home p (Some imms.Iw) w n free h = record { next = 0; low = omega arith; near = and_both _ _ (free 0) refl }
+free_home p (Some imms.Iz) w n free h = record { next = 0; low = omega arith; near = and_both _ _ (free 0) refl }
+free_home p (Some imms.Iv) w n free h = record { next = 0; low = omega arith; near = and_both _ _ (free 0) refl }
+
+below_64 : (a : ℕ) → nat_lt a (2 ^ 64) ≡ true → a < 2 ^ 64
+below_64 a h = grind (arith, nat_tests)
+
+pub find_home : (rm : Option RmRule) (v w : Width) (p : Place) (k : Option ImmKind) (n : ℕ) → not (stands_alone k && is_some rm) ≡ true → has_place rm v p ≡ true → has_imm k w n ≡ true → Home p k n
+find_home rm v w (places.Reg r) k n alone hp hi = free_home (places.Reg r) k w n (λ _. refl) hi
+find_home rm v w (places.Mem m) k n alone hp hi = free_home (places.Mem m) k w n (λ _. refl) hi
+find_home None v w (places.At a) k n alone hp hi = absurd (cc)
+find_home (Some (rules.Fixed b)) v w (places.At a) k n alone hp hi = absurd (cc)
+find_home (Some rules.RegisterOnly) v w (places.At a) k n alone hp hi = absurd (cc)
+find_home (Some rules.Any) v w (places.At a) k n alone hp hi = at_home k a n (below_64 a hp) (beside (stands_alone k) alone)
+find_home (Some rules.MemoryOnly) v w (places.At a) k n alone hp hi = at_home k a n (below_64 a hp) (beside (stands_alone k) alone)
+
+-- ---- the parts of a spelling have bytes
+
+append_parts : (xs ys : List ℕ) → are_bytes (xs ++ ys) ≡ true → (are_bytes xs ≡ true) × (are_bytes ys ≡ true)
+append_parts [] ys h = (refl, h)
+append_parts (x ∷ xs) ys h = (let t = reach_parts (nat_lt x 256) (are_bytes (xs ++ ys)) h in let r = append_parts xs ys t.1 in (and_both _ _ t.0 r.0, r.1))
+
+pub spelled_bytes : (row : Row) (p : Parts) (s : List ℕ) → SpelledBy row p s → (are_bytes p.rm ≡ true) × (are_bytes p.imm ≡ true)
+spelled_bytes row p s h =
+    let all : are_bytes (bytes_of row p) ≡ true = subst (λ k. are_bytes k ≡ true) h.bytes h.all in
+    let a = append_parts p.prefixes _ all in
+    let b = append_parts (rex_bytes p.rex) _ a.1 in
+    let c = append_parts (escape row.map) _ b.1 in
+    append_parts p.rm p.imm (reach_parts (nat_lt p.opcode 256) (are_bytes (p.rm ++ p.imm)) c.1).1
+
+-- ---- the test is exact
+
+pub can_is : (row : Row) (f : Fields) → is_regular row ≡ true → can_have row f ≡ true → CanHave row f
+can_is row f regular can =
+    let h = had_of row f can in
+    let e = find_home row.rm (rm_width row.op f.w) f.w f.rm row.imm f.imm (regular_of row regular).alone h.rm h.imm in
+    record {
+      next = e.next;
+      next_low = e.low;
+      bytes = bytes_of row (parts_for row f e.next);
+      parts = parts_for row f e.next;
+      spelled = spelled_for row f e.next regular can e.low e.near;
+      same = (parts_read row f e.next regular can e.low e.near).same;
+    }
+
+pub is_can : (row : Row) (f : Fields) → is_regular row ≡ true → CanHave row f → can_have row f ≡ true
+is_can row f regular h =
+    let b = spelled_bytes row h.parts h.bytes h.spelled in
+    subst (λ k. can_have row k ≡ true) h.same (fields_had row h.parts h.next regular h.spelled.fits b.0 b.1)

@@ -1,0 +1,5 @@
+use Rattle.rz_isa.proofs.Choice.{one_canonical_row}
+use Rattle.rz_isa.proofs.laws.one_canonical_row.Goals as goal
+
+pub returns : goal.returns
+returns g c = one_canonical_row g.T.InsnTable.rows g.met.T.InsnTable.regular

@@ -1,0 +1,12 @@
+pub mod Insn
+pub mod Number
+pub mod Spelling
+pub mod Fields
+pub mod Spells
+pub mod Table
+pub mod Reading
+pub mod Having
+pub mod Finding
+pub mod Canonical
+pub mod Regular
+pub mod Emitted

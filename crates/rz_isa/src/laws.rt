@@ -1,0 +1,24 @@
+ghost use Rattle.rz_isa.specs.Table.{OneRow, Lengths, OneCanonicalRow, CanonicalSpells};
+
+use crate::table::InsnTable;
+
+/// No bytes are spelled by two rows, no spelling is a proper front of another, and the bytes of
+/// a spelling fix its parts.
+pub fn one_row<T: InsnTable>()
+    ensures { OneRow T.rows }
+{}
+
+/// Every spelling has 1 to 15 bytes.
+pub fn lengths<T: InsnTable>()
+    ensures { Lengths T.rows }
+{}
+
+/// Each instruction that some row spells has exactly one canonical row for each form that it has.
+pub fn one_canonical_row<T: InsnTable>()
+    ensures { OneCanonicalRow T.rows }
+{}
+
+/// A canonical spelling is a spelling by the canonical row, and names the instruction.
+pub fn canonical_spells<T: InsnTable>()
+    ensures { CanonicalSpells T.rows }
+{}

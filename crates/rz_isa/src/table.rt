@@ -1,0 +1,32 @@
+ghost use Rattle.std.specs.Prelude.{◌≡◌, ◌<◌, List, length, slice_get, Some, IsTrue};
+ghost use Rattle.std.specs.List.{list_all};
+ghost use Rattle.rz_isa.specs.declared.rows.Row.{Row};
+ghost use Rattle.rz_isa.specs.Table.{is_plain, all_exclude};
+ghost use Rattle.rz_isa.specs.Regular.{is_regular};
+
+use crate::rows::Row;
+
+/// An instruction table: its rows by their numbers.
+pub trait InsnTable {
+    /// The rows, in their order.
+    ghost rows: { List Row };
+
+    /// How many rows there are.
+    fn count() -> usize
+        ensures { result ≡ length rows };
+
+    /// The row of a number below `count`.
+    fn row(n: usize) -> Row
+        requires { n < length rows }
+        ensures value { slice_get rows n ≡ Some result }
+        ensures regular { IsTrue (is_regular result) };
+
+    /// No opcode of one byte is a prefix, REX or the escape, and each digit has its ModRM byte.
+    ghost plain: { IsTrue (list_all is_plain rows) };
+
+    /// The heads of any two rows exclude each other.
+    ghost exclude: { IsTrue (all_exclude rows) };
+
+    /// The fields of each row can be told from the instruction and the other way round.
+    ghost regular: { IsTrue (list_all is_regular rows) };
+}

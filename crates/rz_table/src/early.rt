@@ -1,0 +1,41 @@
+ghost use Rattle.std.specs.Prelude.{◌≡◌, ◌<◌, length, slice_get, Some, refl};
+ghost use Rattle.rz_isa.specs.Emitted.{Emits};
+ghost use Rattle.rz_isa.specs.Table.{OneRow, Lengths, OneCanonicalRow, CanonicalSpells};
+ghost use Rattle.rz_table.specs.declared.early_rows.TheConstants.{EARLY};
+
+use crate::early_rows::EARLY;
+use crate::profile::pick;
+use rz_isa::{InsnTable, Row};
+
+/// A part of profile 1 that has direct transfers alone. It has 33 rows.
+#[derive(Clone, Copy)]
+pub struct Early;
+
+impl InsnTable for Early {
+    ghost rows = { EARLY };
+
+    /// How many rows there are. The clauses are the laws of the table: no bytes are spelled by
+    /// two rows, every spelling has 1 to 15 bytes, an instruction has one canonical row for each
+    /// form that it has, a canonical spelling names its instruction, and the instructions that a
+    /// written file is made of have canonical spellings.
+    fn count() -> usize
+        ensures length { result ≡ length EARLY }
+        ensures one_row { OneRow EARLY }
+        ensures lengths { Lengths EARLY }
+        ensures one_canonical_row { OneCanonicalRow EARLY }
+        ensures canonical_spells { CanonicalSpells EARLY }
+        ensures emits { Emits EARLY }
+    {
+        EARLY.len()
+    }
+
+    fn row(n: usize) -> Row {
+        pick(&EARLY, n)
+    }
+
+    ghost plain = { refl };
+
+    ghost exclude = { refl };
+
+    ghost regular = { refl };
+}

@@ -1,0 +1,62 @@
+//! Profile 1, the table of the instructions that are read, run and written.
+#![tactic(auto)]
+
+// One line for each row of a table: `_` stands where the row has none, and a ModRM byte in
+// parentheses is the whole byte that the row takes.
+macro_rules! rm_rule {
+    (_) => {
+        None
+    };
+    (($byte:literal)) => {
+        Some(RmRule::Fixed($byte))
+    };
+    ($rule:ident) => {
+        Some(RmRule::$rule)
+    };
+}
+
+macro_rules! digit {
+    (_) => {
+        None
+    };
+    ($digit:literal) => {
+        Some($digit)
+    };
+}
+
+macro_rules! immediate {
+    (_) => {
+        None
+    };
+    ($kind:ident) => {
+        Some(ImmKind::$kind)
+    };
+}
+
+macro_rules! row {
+    ($map:ident $opcode:literal $span:literal $digit:tt $rm:tt $f3:ident $size:ident $imm:tt $form:ident $op:expr) => {
+        Row {
+            map: OpMap::$map,
+            opcode: $opcode,
+            span: $span,
+            digit: digit!($digit),
+            rm: rm_rule!($rm),
+            f3: F3Rule::$f3,
+            size: Size::$size,
+            imm: immediate!($imm),
+            form: Form::$form,
+            op: $op,
+        }
+    };
+}
+
+mod early;
+mod early_rows;
+mod profile;
+mod profile_rows;
+
+pub use early::Early;
+pub use profile::Profile1;
+
+#[cfg(test)]
+mod tests;

@@ -1,0 +1,48 @@
+ghost use Rattle.std.specs.Prelude.{◌≡◌, ◌<◌, length, slice_get, Some, refl};
+ghost use Rattle.rz_isa.specs.Emitted.{Emits};
+ghost use Rattle.rz_isa.specs.Table.{OneRow, Lengths, OneCanonicalRow, CanonicalSpells};
+ghost use Rattle.rz_table.specs.declared.profile_rows.TheConstants.{PROFILE};
+
+use crate::profile_rows::PROFILE;
+use rz_isa::{InsnTable, Row};
+
+/// The table of profile 1. It has 203 rows.
+#[derive(Clone, Copy)]
+pub struct Profile1;
+
+/// The row of a number below the length.
+pub fn pick(rows: &[Row], n: usize) -> Row
+    requires { n < length rows.now }
+    ensures { slice_get rows.now n ≡ Some result }
+{
+    rows[n]
+}
+
+impl InsnTable for Profile1 {
+    ghost rows = { PROFILE };
+
+    /// How many rows there are. The clauses are the laws of the table: no bytes are spelled by
+    /// two rows, every spelling has 1 to 15 bytes, an instruction has one canonical row for each
+    /// form that it has, a canonical spelling names its instruction, and the instructions that a
+    /// written file is made of have canonical spellings.
+    fn count() -> usize
+        ensures length { result ≡ length PROFILE }
+        ensures one_row { OneRow PROFILE }
+        ensures lengths { Lengths PROFILE }
+        ensures one_canonical_row { OneCanonicalRow PROFILE }
+        ensures canonical_spells { CanonicalSpells PROFILE }
+        ensures emits { Emits PROFILE }
+    {
+        PROFILE.len()
+    }
+
+    fn row(n: usize) -> Row {
+        pick(&PROFILE, n)
+    }
+
+    ghost plain = { refl };
+
+    ghost exclude = { refl };
+
+    ghost regular = { refl };
+}
