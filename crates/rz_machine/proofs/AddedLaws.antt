@@ -1,6 +1,5 @@
 -- The parts that are added to a thin file under the first table: their sizes and places.
-use Rattle.std.proofs.Common.{◌≡◌, ℕ, ◌-◌, ◌*◌, ◌%◌, ◌<◌, ◌≤◌, Bool, true, false, if◌then◌else◌, nat_le, ◌==◌, ◌&&◌, List, [], ◌∷◌, length, replicate, refl, sym, ap, ap₂, ◌∙◌, subst, arith}
-use Rattle.std.proofs.lemmas.List.{length-append, length-replicate}
+use Rattle.std.proofs.Common.{◌≡◌, ℕ, ◌-◌, ◌*◌, ◌%◌, ◌<◌, ◌≤◌, Bool, true, false, if◌then◌else◌, nat_le, ◌==◌, ◌&&◌, List, [], ◌∷◌, length, refl, sym, ap, ap₂, ◌∙◌, subst, arith}
 use Rattle.rz_machine.specs.declared.decode.Decoded.{Decoded}
 use Rattle.rz_machine.specs.declared.decode.Decoded.TheVariants as decoded
 use Rattle.rz_machine.specs.declared.trace.Record.{Record}
@@ -13,6 +12,7 @@ use Rattle.rz_machine.specs.Added.{Added, sites, site_edges, tables_size, code_s
 use Rattle.rz_machine.specs.WrittenFile.{Parts, IsAdded, stubs_part, written_file, new_image, Inert}
 use Rattle.rz_machine.specs.Thin.{thin_base, thin_file, IsThin}
 use Rattle.rz_machine.proofs.ThinLaws.{code_region, thin_image}
+use Rattle.rz_machine.proofs.Parts.{length-all_stubs, length-filled}
 use Rattle.rz_machine.proofs.WrittenLaws.{PartsFit, written_accepted, written_image}
 
 -- whether what is decoded is a return or an indirect transfer
@@ -69,16 +69,6 @@ thin_added n = parts_below (tables_size 0 0) (code_size n 0 0) (stubs_size n) th
 pub added-thin : (code : List ℕ) (kept : Record) → 1 ≤ length code → length code ≤ 65536 → added decode_first (image_of (thin_file code)) kept ≡ thin_added (length kept.nodes)
 added-thin code kept h k =
     rw (thin_image code h k, sites-first (code_region code ∷ []) kept.nodes, site_edges-first (code_region code ∷ []) kept.edges) refl
-
-length-all_stubs : (nodes : List ℕ) → length (all_stubs nodes) ≡ 24 * length nodes
-length-all_stubs [] = omega arith
-length-all_stubs (a ∷ nodes) = let ih = length-all_stubs nodes in omega arith
-
-length-filled : (len : ℕ) (bytes : List ℕ) → length bytes ≤ len → length (filled len bytes) ≡ len
-length-filled len bytes h =
-    let a = length-append bytes (replicate (len - length bytes) 0xcc) in
-    let b : length (replicate {A = ℕ} (len - length bytes) 0xcc) ≡ len - length bytes = length-replicate (len - length bytes) 0xcc in
-    omega arith
 
 -- the sizes of the code and the stubs for up to 65,536 nodes
 code_paged : (n : ℕ) → code_size n 0 0 % 4096 ≡ 0
