@@ -21,8 +21,8 @@ use Rattle.rz_machine.specs.TableLaws.{AreBytes, NamesInsn}
 use Rattle.rz_machine.specs.FirstLaws.{names_insns, spelled_where_decoded}
 use Rattle.rz_machine.specs.Keeps.{Edges}
 use Rattle.rz_machine.specs.Nodes.{spelled_at}
-use Rattle.rz_machine.specs.Fragments.{items_for, items_of, items_len, item_len, trimmed, is_following, first_node, fragments}
-use Rattle.rz_core.specs.Places.{nodes_of, total_len}
+use Rattle.rz_machine.specs.Fragments.{items_for, items_of, items_len, item_len, trimmed, is_following, first_node, fragments, total_len}
+use Rattle.rz_core.specs.Places.{nodes_of}
 use Rattle.rz_core.specs.Spellable.{IsSpellable, IsFragmentSpellable, IsDecodedSpellable}
 
 -- the fragments of nodes stand for these nodes

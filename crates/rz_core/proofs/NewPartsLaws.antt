@@ -10,7 +10,7 @@ use Rattle.rz_machine.specs.declared.trace.Record.{Record}
 use Rattle.rz_machine.specs.Memory.{zeros}
 use Rattle.rz_machine.specs.Elf.{Image}
 use Rattle.rz_machine.specs.First.{decode_first}
-use Rattle.rz_machine.specs.Fragments.{fragments_bytes, address_of}
+use Rattle.rz_machine.specs.Fragments.{fragments_bytes, address_of, total_len}
 use Rattle.rz_machine.specs.Added.{Added, added, tables_size, code_size, stubs_size, page_floor, lowest, parts_below, sites, site_edges, all_stubs, filled}
 use Rattle.rz_machine.specs.declared.elf_write.Parts.{Parts}
 use Rattle.rz_machine.specs.WrittenFile.{IsAdded}
@@ -25,7 +25,7 @@ use Rattle.rz_machine.proofs.RewrittenLaws.{code_room, stubs_room, stop_low, pla
 use Rattle.rz_machine.proofs.ThinLaws.{length-zeros}
 use Rattle.rz_core.specs.declared.added.AddedRange.{AddedRange}
 use Rattle.rz_core.specs.NewParts.{range_of, new_parts_of}
-use Rattle.rz_core.specs.Places.{Placing, address_in, nodes_of, total_len, IsPlacingOf}
+use Rattle.rz_core.specs.Places.{Placing, address_in, nodes_of, IsPlacingOf}
 use Rattle.rz_core.proofs.FragmentLaws.{nodes_of_fragments, length-fragments, total_len-short}
 
 module _ (x : Image) (kept : Record) (plain : IsPlainImage x) (can : IsRewritable decode_first x kept) (room : HasRoom decode_first x kept) where

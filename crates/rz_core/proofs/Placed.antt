@@ -6,10 +6,10 @@ use Rattle.std.proofs.lemmas.List.Elements.{All-nil, All-cons}
 use Rattle.rz_machine.specs.declared.items.Label.{Label}
 use Rattle.rz_machine.specs.declared.items.Label.TheVariants as label
 use Rattle.rz_machine.specs.declared.items.Fragment.{Fragment}
-use Rattle.rz_machine.specs.Fragments.{items_len, place_in, address_of}
+use Rattle.rz_machine.specs.Fragments.{items_len, place_in, address_of, total_len}
 use Rattle.rz_machine.specs.Added.{Added, index_of}
 use Rattle.rz_machine.specs.Rewritable.{IsAscending}
-use Rattle.rz_core.specs.Places.{nodes_of, total_len, places_from, Placing, address_in, IsLaidOut, IsPlacingOf}
+use Rattle.rz_core.specs.Places.{nodes_of, places_from, Placing, address_in, IsLaidOut, IsPlacingOf}
 
 -- the place that is beside a node is the one where its fragment stands
 pub place_beside : (frags : List Fragment) (from a : ℕ) → get_or (places_from from frags) (index_of (nodes_of frags) a) 0 ≡ place_in frags from a

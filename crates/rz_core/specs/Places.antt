@@ -11,11 +11,6 @@ use Rattle.rz_machine.specs.Rewritable.{IsAscending}
 abbrev pub nodes_of : List Fragment → List ℕ
 nodes_of frags = map (λ f. f.at) frags
 
--- the length of all fragments in bytes
-abbrev pub total_len : List Fragment → ℕ
-total_len [] = 0
-total_len (f ∷ rest) = items_len f.items + total_len rest
-
 -- the places of fragments that stand one after the other from an address on
 abbrev pub places_from : ℕ → List Fragment → List ℕ
 places_from from [] = []

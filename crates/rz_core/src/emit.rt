@@ -4,8 +4,8 @@ ghost use Rattle.std.specs.Prelude.{◌≡◌, ◌+◌, ◌^◌, ◌<◌, ◌≤
 ghost use Rattle.byteorder.specs.Endian.{little_bytes};
 ghost use Rattle.rz_machine.specs.Added.{all_stubs, stub_bytes};
 ghost use Rattle.rz_machine.specs.First.{spelling};
-ghost use Rattle.rz_machine.specs.Fragments.{fragments_bytes, items_bytes, items_len as len_of_items, item_len as len_of_item, resolved as resolved_item};
-ghost use Rattle.rz_core.specs.Places.{address_in, total_len};
+ghost use Rattle.rz_machine.specs.Fragments.{fragments_bytes, items_bytes, items_len as len_of_items, item_len as len_of_item, resolved as resolved_item, total_len};
+ghost use Rattle.rz_core.specs.Places.{address_in};
 ghost use Rattle.rz_core.specs.Spellable.{IsFragmentSpellable, IsSpellable};
 
 use crate::layout::{Layout, item_len, items_len};

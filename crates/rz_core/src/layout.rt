@@ -2,9 +2,9 @@
 
 ghost use Rattle.std.specs.Prelude.{◌≡◌, ℕ, ◌+◌, ◌*◌, ◌^◌, ◌<◌, ◌≤◌, List, length, slice_index, IfOk};
 ghost use Rattle.rz_machine.specs.Added.{index_of};
-ghost use Rattle.rz_machine.specs.Fragments.{item_len as len_of_item, items_len as len_of_items};
+ghost use Rattle.rz_machine.specs.Fragments.{item_len as len_of_item, items_len as len_of_items, total_len};
 ghost use Rattle.rz_machine.specs.Rewritable.{IsAscending};
-ghost use Rattle.rz_core.specs.Places.{address_in, nodes_of, total_len, IsPlacingOf};
+ghost use Rattle.rz_core.specs.Places.{address_in, nodes_of, IsPlacingOf};
 
 use rz_machine::encode::encoded_len;
 use rz_machine::items::{Fragment, Item, Label};

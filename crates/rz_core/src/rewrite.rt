@@ -4,7 +4,7 @@ ghost use Rattle.std.specs.Prelude.{◌≡◌, ◌+◌, ◌-◌, ◌*◌, ◌^�
 ghost use Rattle.rz_machine.specs.Memory.{zeros};
 ghost use Rattle.rz_machine.specs.Added.{added, all_stubs, filled as filled_with};
 ghost use Rattle.rz_machine.specs.First.{decode_first};
-ghost use Rattle.rz_machine.specs.Fragments.{fragments_bytes};
+ghost use Rattle.rz_machine.specs.Fragments.{fragments_bytes, total_len};
 ghost use Rattle.rz_machine.specs.Keeps.{Keeps};
 ghost use Rattle.rz_machine.specs.Loaded.{loaded, thin_elf, IsLoadable};
 ghost use Rattle.rz_machine.specs.PlainImage.{IsPlainImage};
@@ -13,7 +13,7 @@ ghost use Rattle.rz_machine.specs.Rewritten.{HasRoom, IsRewritten, fragments_of 
 ghost use Rattle.rz_machine.specs.Thin.{IsThin};
 ghost use Rattle.rz_machine.specs.WrittenFile.{written_file, Inert};
 ghost use Rattle.rz_core.specs.NewParts.{range_of, new_parts_of};
-ghost use Rattle.rz_core.specs.Places.{address_in, total_len};
+ghost use Rattle.rz_core.specs.Places.{address_in};
 ghost use Rattle.rz_core.specs.Spellable.{IsFragmentSpellable};
 
 use crate::added::{AddedRange, lowest_load, page_floor, parts_below};

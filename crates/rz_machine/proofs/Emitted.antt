@@ -12,14 +12,9 @@ use Rattle.rz_machine.specs.Insn.{Decoder}
 use Rattle.rz_machine.specs.Keeps.{Edges}
 use Rattle.rz_machine.specs.Nodes.{spelled_at}
 use Rattle.rz_machine.specs.Rewritable.{has_node, IsAscending}
-use Rattle.rz_machine.specs.Fragments.{items_for, trimmed, first_node, fragments, items_len, place_in, items_bytes, fragments_bytes}
+use Rattle.rz_machine.specs.Fragments.{items_for, trimmed, first_node, fragments, items_len, total_len, place_in, items_bytes, fragments_bytes}
 use Rattle.rz_machine.proofs.Placed.{BytesAt, bytes_front, bytes_back, length-items}
 use Rattle.rz_machine.proofs.Trimmed.{length-trimmed, length-items_of}
-
--- the bytes of fragments
-abbrev pub total_len : List Fragment → ℕ
-total_len [] = 0
-total_len (f ∷ rest) = items_len f.items + total_len rest
 
 -- the bytes have that length
 pub length-fragments_bytes : (at : Label → ℕ) (from : ℕ) (frags : List Fragment) → length (fragments_bytes at from frags) ≡ total_len frags

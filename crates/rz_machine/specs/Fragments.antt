@@ -64,6 +64,11 @@ abbrev pub items_len : List Item → ℕ
 items_len [] = 0
 items_len (i ∷ rest) = item_len i + items_len rest
 
+-- the length of all fragments in bytes
+abbrev pub total_len : List Fragment → ℕ
+total_len [] = 0
+total_len (f ∷ rest) = items_len f.items + total_len rest
+
 -- the address of the fragment of a, where the fragments stand one after the other from an address on
 abbrev pub place_in : List Fragment → ℕ → ℕ → ℕ
 place_in [] from a = 0

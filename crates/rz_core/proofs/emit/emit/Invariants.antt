@@ -1,6 +1,6 @@
 use Rattle.std.proofs.Common.{◌≡◌, ◌+◌, ◌++◌, drop}
-use Rattle.rz_machine.specs.Fragments.{fragments_bytes}
-use Rattle.rz_core.specs.Places.{address_in, total_len}
+use Rattle.rz_machine.specs.Fragments.{fragments_bytes, total_len}
+use Rattle.rz_core.specs.Places.{address_in}
 use Rattle.rz_core.proofs.emit.emit.Given as goal
 
 abbrev pub invariant-loop-fragment : goal.invariant-loop-fragment

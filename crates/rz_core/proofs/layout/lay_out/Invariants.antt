@@ -1,5 +1,6 @@
 use Rattle.std.proofs.Common.{◌≡◌, ◌+◌, ◌++◌, drop}
-use Rattle.rz_core.specs.Places.{nodes_of, places_from, total_len}
+use Rattle.rz_machine.specs.Fragments.{total_len}
+use Rattle.rz_core.specs.Places.{nodes_of, places_from}
 use Rattle.rz_core.proofs.layout.lay_out.Given as goal
 
 abbrev pub invariant-loop-fragment : goal.invariant-loop-fragment

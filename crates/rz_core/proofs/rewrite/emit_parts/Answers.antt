@@ -1,10 +1,10 @@
 use Rattle.std.proofs.Common.{◌≡◌, ◌∙◌, ap, length, arith}
 use Rattle.rz_machine.specs.Memory.{zeros}
 use Rattle.rz_machine.specs.Added.{all_stubs}
-use Rattle.rz_machine.specs.Fragments.{fragments_bytes}
+use Rattle.rz_machine.specs.Fragments.{fragments_bytes, total_len}
 use Rattle.rz_machine.proofs.Emitted.{length-fragments_bytes}
 use Rattle.rz_machine.proofs.Parts.{length-all_stubs}
-use Rattle.rz_core.specs.Places.{address_in, total_len}
+use Rattle.rz_core.specs.Places.{address_in}
 use Rattle.rz_core.proofs.rewrite.emit_parts.Goals as goal
 
 pub filled-requires-2 : goal.filled-requires-2
