@@ -6,7 +6,7 @@ use Rattle.rz_core.specs.declared.status.Status.TheVariants as status
 use Rattle.rz_core.specs.declared.status.Target.TheVariants as target
 use Rattle.rz_core.specs.Words.{Debloat}
 use Rattle.rz_core.specs.Texts.{refusal_text}
-use Rattle.std.specs.Prelude.{Option, Some, None}
+use Rattle.std.specs.Prelude.{Some, None}
 use Rattle.rz_outside.specs.Counts.{Rose, rose_later}
 use Rattle.rz_core.specs.Causes.{StoreCalls, SinkCalls, HoldsThin, InputRefusal, PrepareRefusal, RefusedBy, CauseOf, FilesAfterForm, SinkAfter, GotText, PutAfter, RefusedAfter, IsReported}
 

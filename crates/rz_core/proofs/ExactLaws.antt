@@ -1,7 +1,6 @@
 -- From the causes of all answers to the one that comes.
-use Rattle.std.proofs.Common.{◌≡◌, ◌≢◌, ℕ, ◌⊎◌, inl, inr, ⊎_elim, IsTrue, List, [], refl, sym, ap, ap₂, ◌∙◌, subst}
+use Rattle.std.proofs.Common.{◌≡◌, ◌≢◌, ℕ, ◌⊎◌, inl, inr, ⊎_elim, List, [], refl, sym, ap, ap₂, ◌∙◌, subst}
 use Rattle.std.specs.Prelude.{Option, Some, None}
-use Rattle.rz_outside.specs.Counts.{Rose}
 use Rattle.rz_machine.specs.declared.elf.ElfFault.{ElfFault}
 use Rattle.rz_machine.specs.declared.elf.ElfFault.TheVariants as fault
 use Rattle.rz_machine.specs.First.{decode_first}
@@ -13,9 +12,9 @@ use Rattle.rz_core.specs.declared.status.Status.TheVariants as status
 use Rattle.rz_core.specs.declared.status.Target.TheVariants as target
 use Rattle.rz_core.specs.Words.{Debloat}
 use Rattle.rz_core.specs.Debloated.{traced}
-use Rattle.rz_core.specs.Causes.{StoreCalls, SinkCalls, HoldsThin, AreRead, ReadCause, IsReadName, CauseOf, HasCause}
+use Rattle.rz_core.specs.Causes.{StoreCalls, SinkCalls, HoldsThin, AreRead, ReadCause, IsReadName, CauseOf}
 use Rattle.rz_core.specs.Headline.{Headline}
-use Rattle.rz_core.specs.Exact.{IsQuiet, Gives, IsExact, AnswersExactly}
+use Rattle.rz_core.specs.Exact.{IsQuiet, Gives, AnswersExactly}
 
 -- a name holds one content
 one_content : (o : Option (List ℕ)) (x y : List ℕ) → o ≡ Some x → o ≡ Some y → x ≡ y

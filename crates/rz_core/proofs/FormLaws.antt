@@ -1,5 +1,5 @@
 -- Lists of seven words.
-use Rattle.std.proofs.Common.{◌≡◌, ℕ, ◌^◌, ◌-◌, ◌<◌, ◌≤◌, Bool, true, ◌&&◌, if◌then◌else◌, nat_le, List, [], ◌∷◌, length, get_or, min, codes, bytes_eq, Option, Some, None, refl, sym, ap, ap₂, ◌∙◌, arith, leb-true}
+use Rattle.std.proofs.Common.{◌≡◌, ℕ, ◌^◌, ◌-◌, ◌≤◌, Bool, true, ◌&&◌, nat_le, List, [], ◌∷◌, length, get_or, min, codes, bytes_eq, Some, sym, ap, ◌∙◌, arith, leb-true}
 use Rattle.std.proofs.lemmas.Bool.{and_parts, cond-true}
 use Rattle.rz_core.specs.Words.{Debloat, form_of, is_debloat, is_number, is_limit, is_name, digits_value}
 

@@ -1,11 +1,8 @@
 -- What fragments have: their nodes, at most twelve bytes each, and items with spellings.
-use Rattle.std.proofs.Common.{◌≡◌, ℕ, zero, suc, ◌+◌, ◌*◌, ◌^◌, ◌<◌, ◌≤◌, lit<, Bool, true, false, if◌then◌else◌, List, [], ◌∷◌, length, map, take, Option, Some, None, refl, sym, ◌∙◌, ap, arith, mod-eq_of_lt}
+use Rattle.std.proofs.Common.{◌≡◌, ℕ, suc, ◌+◌, ◌*◌, ◌^◌, ◌<◌, ◌≤◌, lit<, Bool, true, false, if◌then◌else◌, List, [], ◌∷◌, length, take, Option, refl, ap, arith, mod-eq_of_lt}
 use Rattle.std.specs.List.{All, AllByRecursion}
 use Rattle.std.proofs.lemmas.List.Elements.{All-from_recursion, recursion_from_All}
-use Rattle.rz_num.specs.declared.width.Width.TheVariants.{W32}
-use Rattle.rz_machine.specs.declared.insn.Reg.TheVariants.{R}
 use Rattle.rz_machine.specs.declared.insn.Place.TheVariants as place
-use Rattle.rz_machine.specs.declared.insn.Operand.TheVariants.{Imm}
 use Rattle.rz_machine.specs.declared.insn.Insn.{Insn}
 use Rattle.rz_machine.specs.declared.insn.Insn.TheVariants as insn
 use Rattle.rz_machine.specs.declared.decode.Decoded.{Decoded}
@@ -13,15 +10,14 @@ use Rattle.rz_machine.specs.declared.decode.Decoded.TheVariants as decoded
 use Rattle.rz_machine.specs.declared.items.Label.{Label}
 use Rattle.rz_machine.specs.declared.items.Item.{Item}
 use Rattle.rz_machine.specs.declared.items.Item.TheVariants as item
-use Rattle.rz_machine.specs.declared.items.Fragment.{Fragment}
 use Rattle.rz_machine.specs.Memory.{Regions, wrap}
-use Rattle.rz_machine.specs.Insn.{Decoder, IsNamed}
-use Rattle.rz_machine.specs.First.{decode_first, Spells, spells_mov, spells_jmp, spells_syscall, spells_ud2, HasSpelling}
+use Rattle.rz_machine.specs.Insn.{Decoder}
+use Rattle.rz_machine.specs.First.{decode_first, Spells, spells_mov, spells_jmp, spells_syscall, spells_ud2}
 use Rattle.rz_machine.specs.TableLaws.{AreBytes, NamesInsn}
 use Rattle.rz_machine.specs.FirstLaws.{names_insns, spelled_where_decoded}
 use Rattle.rz_machine.specs.Keeps.{Edges}
 use Rattle.rz_machine.specs.Nodes.{spelled_at}
-use Rattle.rz_machine.specs.Fragments.{items_for, items_of, items_len, item_len, trimmed, is_following, first_node, fragments, total_len}
+use Rattle.rz_machine.specs.Fragments.{items_for, items_len, item_len, trimmed, is_following, first_node, fragments, total_len}
 use Rattle.rz_core.specs.Places.{nodes_of}
 use Rattle.rz_core.specs.Spellable.{IsSpellable, IsFragmentSpellable, IsDecodedSpellable}
 

@@ -1,5 +1,5 @@
 -- The parts of a new file hold what they are to hold.
-use Rattle.std.proofs.Common.{◌≡◌, ℕ, ◌+◌, ◌-◌, ◌*◌, ◌^◌, ◌<◌, ◌≤◌, ◌==◌, true, List, ◌++◌, length, get_or, replicate, refl, sym, ap, ap₂, ◌∙◌, subst, arith, eq-eqb}
+use Rattle.std.proofs.Common.{◌≡◌, ℕ, ◌+◌, ◌-◌, ◌*◌, ◌^◌, ◌<◌, ◌≤◌, ◌==◌, List, length, get_or, replicate, refl, sym, ap, ap₂, ◌∙◌, subst, arith, eq-eqb}
 use mathlib.Core.Path.{fun_ext}
 use Rattle.std.specs.List.{All}
 use Rattle.std.proofs.lemmas.List.Folds.{list_any_at}
@@ -11,15 +11,14 @@ use Rattle.rz_machine.specs.Memory.{zeros}
 use Rattle.rz_machine.specs.Elf.{Image}
 use Rattle.rz_machine.specs.First.{decode_first}
 use Rattle.rz_machine.specs.Fragments.{fragments_bytes, address_of, total_len}
-use Rattle.rz_machine.specs.Added.{Added, added, tables_size, code_size, stubs_size, page_floor, lowest, parts_below, sites, site_edges, all_stubs, filled}
+use Rattle.rz_machine.specs.Added.{Added, added, tables_size, code_size, stubs_size, page_floor, lowest, parts_below, all_stubs, filled}
 use Rattle.rz_machine.specs.declared.elf_write.Parts.{Parts}
-use Rattle.rz_machine.specs.WrittenFile.{IsAdded}
 use Rattle.rz_machine.specs.Rewritable.{IsRewritable, IsAscending}
 use Rattle.rz_machine.specs.PlainImage.{IsPlainImage}
 use Rattle.rz_machine.specs.Rewritten.{HasRoom, IsRewritten, fragments_of, place_of, code_of_nodes}
 use Rattle.rz_machine.proofs.AddedLaws.{sites-first, site_edges-first}
 use Rattle.rz_machine.proofs.Emitted.{length-fragments_bytes}
-use Rattle.rz_machine.proofs.Parts.{length-filled, length-all_stubs}
+use Rattle.rz_machine.proofs.Parts.{length-filled}
 use Rattle.rz_machine.proofs.PlainNodes.{stands}
 use Rattle.rz_machine.proofs.RewrittenLaws.{code_room, stubs_room, stop_low, place_in_code}
 use Rattle.rz_machine.proofs.ThinLaws.{length-zeros}

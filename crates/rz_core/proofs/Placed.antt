@@ -1,15 +1,15 @@
 -- Where fragments stand, by lists of nodes and places.
-use Rattle.std.proofs.Common.{◌≡◌, ℕ, zero, suc, ◌+◌, ◌*◌, ◌^◌, ◌<◌, ◌≤◌, Bool, true, false, if◌then◌else◌, ◌==◌, List, [], ◌∷◌, ◌++◌, length, drop, map, get_or, refl, sym, ◌∙◌, ap, arith, append-nil}
+use Rattle.std.proofs.Common.{◌≡◌, ℕ, ◌+◌, ◌*◌, ◌^◌, ◌<◌, ◌≤◌, Bool, true, false, if◌then◌else◌, ◌==◌, List, [], ◌∷◌, ◌++◌, length, drop, get_or, refl, sym, ◌∙◌, ap, arith, append-nil}
 use Rattle.std.specs.List.{All}
 use Rattle.std.proofs.lemmas.List.{drop_all, length-map}
 use Rattle.std.proofs.lemmas.List.Elements.{All-nil, All-cons}
 use Rattle.rz_machine.specs.declared.items.Label.{Label}
 use Rattle.rz_machine.specs.declared.items.Label.TheVariants as label
 use Rattle.rz_machine.specs.declared.items.Fragment.{Fragment}
-use Rattle.rz_machine.specs.Fragments.{items_len, place_in, address_of, total_len}
-use Rattle.rz_machine.specs.Added.{Added, index_of}
+use Rattle.rz_machine.specs.Fragments.{items_len, place_in, total_len}
+use Rattle.rz_machine.specs.Added.{index_of}
 use Rattle.rz_machine.specs.Rewritable.{IsAscending}
-use Rattle.rz_core.specs.Places.{nodes_of, places_from, Placing, address_in, IsLaidOut, IsPlacingOf}
+use Rattle.rz_core.specs.Places.{nodes_of, places_from, Placing, IsLaidOut, IsPlacingOf}
 
 -- the place that is beside a node is the one where its fragment stands
 pub place_beside : (frags : List Fragment) (from a : ℕ) → get_or (places_from from frags) (index_of (nodes_of frags) a) 0 ≡ place_in frags from a

@@ -1,6 +1,6 @@
 -- What a bounded read says of the whole file.
-use Rattle.std.proofs.Common.{◌≡◌, ◌≢◌, ◌==◌, Bool, true, false, eqb-true, eq-eqb, ℕ, ◌+◌, ◌<◌, ◌≤◌, List, [], ◌∷◌, length, take, min, Option, Some, refl, sym, ap, ◌∙◌, subst, arith, take_all, length-take}
-use Rattle.rz_machine.specs.Thin.{thin_file, IsThin}
+use Rattle.std.proofs.Common.{◌≡◌, ◌≢◌, ◌==◌, Bool, true, false, eqb-true, eq-eqb, ℕ, ◌+◌, ◌<◌, ◌≤◌, List, [], ◌∷◌, length, take, min, refl, sym, ap, ◌∙◌, subst, arith, take_all, length-take}
+use Rattle.rz_machine.specs.Thin.{IsThin}
 use Rattle.rz_machine.proofs.ThinLaws.{length-thin_file}
 
 -- a thin file is small

@@ -3,7 +3,7 @@ use Rattle.std.proofs.Common.{◌≡◌, ℕ, ◌+◌, ◌≤◌, List, length, 
 use Rattle.rz_machine.specs.declared.elf.Elf.{Elf}
 use Rattle.rz_machine.specs.declared.elf_write.Parts.{Parts}
 use Rattle.rz_machine.specs.declared.trace.Record.{Record}
-use Rattle.rz_machine.specs.Elf.{Image, image_of}
+use Rattle.rz_machine.specs.Elf.{image_of}
 use Rattle.rz_machine.specs.First.{decode_first}
 use Rattle.rz_machine.specs.TableLaws.{AreBytes}
 use Rattle.rz_machine.specs.Added.{Added, added}

@@ -1,5 +1,5 @@
 -- What stands in the parts of a new file.
-use Rattle.std.specs.Prelude.{ℕ, ◌-◌}
+use Rattle.std.specs.Prelude.{◌-◌}
 use Rattle.rz_machine.specs.declared.trace.Record.{Record}
 use Rattle.rz_machine.specs.Memory.{zeros}
 use Rattle.rz_machine.specs.Elf.{Image}

@@ -1,5 +1,5 @@
 -- The forms of the command line, as lists of words.
-use Rattle.std.specs.Prelude.{ℕ, ◌+◌, ◌-◌, ◌*◌, Bool, true, false, ◌&&◌, not, if◌then◌else◌, nat_le, ◌==◌, List, [], ◌∷◌, length, fold, codes, bytes_eq, Option, Some, None}
+use Rattle.std.specs.Prelude.{ℕ, ◌+◌, ◌-◌, ◌*◌, Bool, ◌&&◌, if◌then◌else◌, nat_le, List, [], ◌∷◌, length, fold, codes, bytes_eq, Option, Some, None}
 use Rattle.std.specs.List.{list_all}
 
 -- a decimal number: 1 to 20 digits, with leading zeros read

@@ -1,4 +1,4 @@
-use Rattle.std.proofs.Common.{IsTrue, sym, ◌∙◌, subst}
+use Rattle.std.proofs.Common.{IsTrue, sym, subst}
 use Rattle.rz_core.proofs.debloat.debloat.Goals as goal
 
 pub returns-clause-done : goal.returns-clause-done

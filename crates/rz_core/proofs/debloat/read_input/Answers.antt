@@ -1,4 +1,4 @@
-use Rattle.std.proofs.Common.{◌≡◌, ℕ, ◌<◌, IsTrue, [], refl, ap, ◌∙◌, arith, Some}
+use Rattle.std.proofs.Common.{◌<◌, refl, ap, ◌∙◌, arith, Some}
 use Rattle.rz_core.proofs.ReadLaws.{empty_whole, some_whole, none_of, some_of}
 use Rattle.rz_core.proofs.debloat.read_input.Goals as goal
 

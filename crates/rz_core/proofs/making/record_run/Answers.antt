@@ -1,7 +1,7 @@
 use Rattle.std.proofs.Common.{subst}
 use Rattle.rz_machine.specs.declared.machine.Machine.{Machine}
 use Rattle.rz_machine.specs.First.{decode_first}
-use Rattle.rz_machine.specs.LeftCode.{LeavesCode, StaysInCode}
+use Rattle.rz_machine.specs.LeftCode.{StaysInCode}
 use Rattle.rz_machine.specs.Recorded.{IsUncut}
 use Rattle.rz_core.proofs.MadeLaws.{unwritten_of, nothing_stands, kept_is, traced_is}
 use Rattle.rz_core.proofs.making.record_run.Goals as goal

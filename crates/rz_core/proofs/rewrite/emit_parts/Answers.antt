@@ -1,7 +1,6 @@
 use Rattle.std.proofs.Common.{◌≡◌, ◌∙◌, ap, length, arith}
 use Rattle.rz_machine.specs.Memory.{zeros}
-use Rattle.rz_machine.specs.Added.{all_stubs}
-use Rattle.rz_machine.specs.Fragments.{fragments_bytes, total_len}
+use Rattle.rz_machine.specs.Fragments.{total_len}
 use Rattle.rz_machine.proofs.Emitted.{length-fragments_bytes}
 use Rattle.rz_machine.proofs.Parts.{length-all_stubs}
 use Rattle.rz_core.specs.Places.{address_in}

@@ -1,4 +1,4 @@
-use Rattle.std.proofs.Common.{[], ◌++◌, ◌^◌, ◌<◌, map, subst, sym, append-nil}
+use Rattle.std.proofs.Common.{[], ◌^◌, ◌<◌, map, subst, sym, append-nil}
 use Rattle.std.specs.List.{All}
 use Rattle.rz_machine.specs.Memory.{RegionsFit}
 use Rattle.rz_machine.specs.Loaded.{loaded, loaded_region}

@@ -1,4 +1,4 @@
-use Rattle.std.proofs.Common.{◌≡◌, ◌^◌, ◌<◌, ◌∙◌, List, ℕ, sym, ap, ap₂, subst, map}
+use Rattle.std.proofs.Common.{◌≡◌, ◌^◌, ◌<◌, ◌∙◌, List, sym, ap, ap₂, subst, map}
 use Rattle.rz_machine.specs.declared.elf.Load.{Load}
 use Rattle.rz_machine.specs.Added.{tables_size, code_size, stubs_size, page_floor, lowest, parts_below}
 use Rattle.rz_machine.specs.Loaded.{loaded, loaded_region}

@@ -1,4 +1,4 @@
-use Rattle.std.proofs.Common.{◌≡◌, subst}
+use Rattle.std.proofs.Common.{subst}
 use Rattle.rz_machine.specs.TableLaws.{AreBytes}
 use Rattle.rz_core.proofs.RewriteLaws.{plain, room, below, kept_file}
 use Rattle.rz_core.proofs.rewrite.rewrite.Goals as goal

@@ -1,4 +1,4 @@
-use Rattle.std.proofs.Common.{◌≡◌, ℕ, sym, ap, ◌∙◌, arith, min, ◌^◌, ◌-◌, length}
+use Rattle.std.proofs.Common.{◌≡◌, sym, ap, ◌∙◌, arith, min, ◌^◌, ◌-◌, length}
 use Rattle.rz_core.specs.Words.{digits_value}
 use Rattle.rz_core.proofs.FormLaws.{seven, form_is}
 use Rattle.rz_core.proofs.words.form.Goals as goal
