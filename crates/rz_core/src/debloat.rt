@@ -1,14 +1,10 @@
 //! The command `debloat`: what it reads, makes and writes.
 
-ghost use Rattle.std.specs.Prelude.{◌≡◌, ◌≢◌, ◌<◌, slice_index, ◌≤◌, ◌⊎◌, ℕ, List, [], Some, IfOk, IfErr, OnOk, OnErr, IsTrue};
+ghost use Rattle.std.specs.Prelude.{◌≡◌, ◌<◌, slice_index, ◌≤◌, ℕ, [], Some, IfOk, IfErr, OnOk, IsTrue};
 ghost use Rattle.rz_outside.specs.StoreAnswers.{SameFiles, SameOthers, ReadsFirst};
-ghost use Rattle.rz_machine.specs.Thin.{IsThin};
-ghost use Rattle.rz_machine.specs.First.{decode_first};
-ghost use Rattle.rz_machine.specs.LeftCode.{LeavesCode};
-ghost use Rattle.rz_core.specs.Causes.{IsReported, PrepareRefusal, RefusedBy, ReadRefusal, ExecutableRefusal, InputRefusal, WriteRefusal, IsDone, FilesAfterForm, AreRead};
+ghost use Rattle.rz_core.specs.Causes.{IsReported, PrepareRefusal, RefusedBy, ReadRefusal, ExecutableRefusal, InputRefusal, WriteRefusal, FilesAfterForm};
 ghost use Rattle.rz_core.specs.Commands.{words_of};
 ghost use Rattle.rz_core.specs.Making.{IsMade, IsOfThin};
-ghost use Rattle.rz_core.specs.Debloated.{IsDebloated, traced, report_of};
 
 use crate::making::{Made, MakeRefusal, make};
 use crate::status::{Status, Target};

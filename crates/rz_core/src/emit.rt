@@ -1,7 +1,6 @@
 //! Emission: the bytes of fragments and of stubs.
 
-ghost use Rattle.std.specs.Prelude.{◌≡◌, ◌+◌, ◌^◌, ◌<◌, ◌≤◌, ◌++◌, All, IfOk, OnOk};
-ghost use Rattle.byteorder.specs.Endian.{little_bytes};
+ghost use Rattle.std.specs.Prelude.{◌≡◌, ◌+◌, ◌^◌, ◌<◌, ◌++◌, All, IfOk, OnOk};
 ghost use Rattle.rz_machine.specs.Added.{all_stubs, stub_bytes};
 ghost use Rattle.rz_machine.specs.First.{spelling};
 ghost use Rattle.rz_machine.specs.Fragments.{fragments_bytes, items_bytes, items_len as len_of_items, item_len as len_of_item, resolved as resolved_item, total_len};

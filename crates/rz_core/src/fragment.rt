@@ -1,6 +1,6 @@
 //! Fragments: the items that stand for each kept instruction.
 
-ghost use Rattle.std.specs.Prelude.{◌≡◌, ◌+◌, ◌^◌, ◌<◌, ◌≤◌, [], ◌∷◌, ◌++◌, length, drop, All, IfOk};
+ghost use Rattle.std.specs.Prelude.{◌≡◌, ◌+◌, ◌^◌, ◌<◌, [], ◌∷◌, ◌++◌, length, drop, All, IfOk};
 ghost use Rattle.rz_machine.specs.declared.items.Item.TheVariants as item;
 ghost use Rattle.rz_machine.specs.First.{decode_first, mov_number as mov_number_of};
 ghost use Rattle.rz_machine.specs.Fragments.{items_for, items_of, is_following as is_following_label, first_node, fragments, to_label, trimmed};

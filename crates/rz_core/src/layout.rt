@@ -1,6 +1,6 @@
 //! Layout: where the fragments and the stubs stand.
 
-ghost use Rattle.std.specs.Prelude.{◌≡◌, ℕ, ◌+◌, ◌*◌, ◌^◌, ◌<◌, ◌≤◌, List, length, slice_index, IfOk};
+ghost use Rattle.std.specs.Prelude.{◌≡◌, ◌+◌, ◌*◌, ◌^◌, ◌<◌, ◌≤◌, length, slice_index, IfOk};
 ghost use Rattle.rz_machine.specs.Added.{index_of};
 ghost use Rattle.rz_machine.specs.Fragments.{item_len as len_of_item, items_len as len_of_items, total_len};
 ghost use Rattle.rz_machine.specs.Rewritable.{IsAscending};

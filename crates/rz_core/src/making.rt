@@ -1,6 +1,6 @@
 //! From a file to its new file: the trace, the new parts, the written file and the report.
 
-ghost use Rattle.std.specs.Prelude.{◌≡◌, ◌≤◌, ℕ, List, length, IfOk, IfErr, OnOk};
+ghost use Rattle.std.specs.Prelude.{◌≡◌, ◌≤◌, length, IfOk, IfErr, OnOk};
 ghost use Rattle.rz_machine.specs.Loaded.{loaded};
 ghost use Rattle.rz_machine.specs.First.{decode_first};
 ghost use Rattle.rz_machine.specs.Added.{added};

@@ -1,6 +1,6 @@
 // Worked command lines, over stores and sinks in memory.
 
-ghost use Rattle.std.specs.Prelude.{◌≡◌, ◌≤◌, ◌+◌, length, IfOk};
+ghost use Rattle.std.specs.Prelude.{◌≡◌, ◌≤◌, IfOk};
 ghost use Rattle.rz_machine.specs.Loaded.{IsLoadable};
 
 use crate::status::number;

@@ -1,6 +1,6 @@
 //! The texts that the tool puts.
 
-ghost use Rattle.std.specs.Prelude.{◌≡◌, string_bytes, IfOk, List, ℕ};
+ghost use Rattle.std.specs.Prelude.{◌≡◌, string_bytes, IfOk};
 ghost use Rattle.rz_core.specs.Texts.{report_text, fault_text as text_of_fault, refusal_text as text_of_refusal};
 
 use crate::status::{Status, Target};

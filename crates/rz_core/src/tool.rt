@@ -1,10 +1,7 @@
 //! The top call: a command line over a store of files and a sink of text.
 
-ghost use Rattle.std.specs.Prelude.{◌≡◌, ◌≢◌, ◌≤◌, ◌⊎◌, ℕ, List, [], Some, None, Option, IfOk, IfErr, OnOk, OnErr, IsTrue};
-ghost use Rattle.rz_outside.specs.StoreAnswers.{SameFiles, SameOthers};
-ghost use Rattle.rz_outside.specs.SinkAnswers.{appended};
+ghost use Rattle.std.specs.Prelude.{◌≡◌, ◌≤◌, Some, None};
 ghost use Rattle.rz_core.specs.Words.{form_of};
-ghost use Rattle.rz_core.specs.Texts.{refusal_text};
 ghost use Rattle.rz_core.specs.Commands.{words_of};
 ghost use Rattle.rz_core.specs.Exact.{AnswersExactly};
 ghost use Rattle.rz_core.specs.Headline.{Headline};

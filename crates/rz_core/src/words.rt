@@ -1,6 +1,6 @@
 //! The words of the command line.
 
-ghost use Rattle.std.specs.Prelude.{◌≡◌, ◌≤◌, ◌+◌, ◌-◌, ◌*◌, ◌^◌, ◌<◌, ◌&&◌, length, ℕ, List, MatchOption, IfSome, min, Some, None, bytes_eq, codes};
+ghost use Rattle.std.specs.Prelude.{◌≡◌, ◌≤◌, ◌-◌, ◌*◌, ◌^◌, ◌<◌, ◌&&◌, MatchOption, IfSome, min, Some, None};
 ghost use Rattle.std.specs.List.{list_all};
 ghost use Rattle.rz_core.specs.Words.{form_of, is_digit as is_digit_of, is_number as is_number_of, digits_value, is_limit as is_limit_of, is_name as is_name_of, is_debloat as is_debloat_of};
 
