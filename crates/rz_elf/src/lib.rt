@@ -1,13 +1,16 @@
-// A library with one function.
+//! ELF-64 files: which are accepted, and what they load (System V gABI, chapters 4 and 5).
 #![tactic(auto)]
 
-ghost use Rattle.std.specs.Prelude.{◌≡◌};
-ghost use Rattle.rz_elf.specs.Echo.{echo_of};
-
-// The `ensures` clause is the contract: what `echo` returns is `echo_of` of its argument, a definition
-// in `specs/Echo.antt`, which a caller's clause can cite too.
-pub fn echo(x: usize) -> usize
-    ensures { result ≡ echo_of x }
-{
-    x
-}
+pub mod code;
+pub mod elf;
+pub mod fault;
+mod file_faults;
+mod header;
+mod header_faults;
+pub mod law;
+mod load_faults;
+mod placed;
+pub mod read;
+pub mod segment;
+#[cfg(test)]
+mod tests;

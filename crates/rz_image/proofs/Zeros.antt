@@ -2,8 +2,12 @@
 use Rattle.std.proofs.Common.{◌≡◌, ℕ, zero, suc, ◌+◌, true, ◌==◌, List, [], ◌∷◌, ◌++◌, length, refl, ap₂, eqb-true}
 use Rattle.std.specs.List.{list_all}
 use Rattle.std.proofs.lemmas.Bool.{and_parts}
-use Rattle.std.proofs.lemmas.List.{replicate-append-replicate}
-use Rattle.rz_image.specs.Memory.{Cell, zeros}
+use Rattle.std.proofs.lemmas.List.{length-replicate, replicate-append-replicate}
+use Rattle.rz_image.specs.Memory.{zeros}
+
+pub length-zeros : (n : ℕ) → length (zeros n) ≡ n
+unfolding zeros
+length-zeros n = length-replicate n 0
 
 pub zeros-append-zeros : (n m : ℕ) → zeros n ++ zeros m ≡ zeros (n + m)
 unfolding zeros

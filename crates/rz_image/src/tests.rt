@@ -30,18 +30,33 @@ fn words_cross_regions(rt: HostRuntime) -> Result<(), Fail> {
     let memory = two_regions(rt.alloc())?;
     assert_eq!(rt; memory.load(0x1000, Width::W32), Ok(0x0403_0201));
     assert_eq!(rt; memory.load(0x1002, Width::W32), Ok(0x0605_0403));
-    assert_eq!(rt; memory.load(0x1003, Width::W32), Err(Touch { address: 0x1006 }));
-    assert_eq!(rt; memory.load(u64::MAX, Width::W16), Err(Touch { address: u64::MAX }));
-    assert_eq!(rt; memory.copy(rt.alloc(), 0x1003, 3)?.as_slice(), [4, 5, 6].as_slice());
+    assert_eq!(rt;
+        memory.load(0x1003, Width::W32),
+        Err(Touch { address: 0x1006 })
+    );
+    assert_eq!(rt;
+        memory.load(u64::MAX, Width::W16),
+        Err(Touch { address: u64::MAX })
+    );
+    assert_eq!(rt;
+        memory.copy(rt.alloc(), 0x1003, 3)?.as_slice(),
+        [4, 5, 6].as_slice()
+    );
     Ok(())
 }
 
 #[test]
 fn a_refused_store_changes_nothing(rt: HostRuntime) -> Result<(), Fail> {
     let mut memory = two_regions(rt.alloc())?;
-    assert_eq!(rt; memory.store(0x1005, Width::W16, 0xffff), Err(Touch { address: 0x1006 }));
+    assert_eq!(rt;
+        memory.store(0x1005, Width::W16, 0xffff),
+        Err(Touch { address: 0x1006 })
+    );
     assert_eq!(rt; memory.load(0x1004, Width::W16), Ok(0x0605));
-    assert_eq!(rt; memory.store(0x1003, Width::W16, 0xffff), Err(Touch { address: 0x1003 }));
+    assert_eq!(rt;
+        memory.store(0x1003, Width::W16, 0xffff),
+        Err(Touch { address: 0x1003 })
+    );
     assert_eq!(rt; memory.store(0x1004, Width::W16, 0x1_0807), Ok(()));
     assert_eq!(rt; memory.load(0x1004, Width::W16), Ok(0x0807));
     Ok(())

@@ -19,7 +19,7 @@ returns-then-not-has_address-clause-none c =
     let point = IsPartitionPoint-from_clause (λ r. leb r.base c.args.at) _ _ c.partition_point-after.ensures.partitioned parted (λ a r q k. search rules) in
     none_has m c.args.at c.partition_point-after.result c.requires c.partition_point-after.ensures.bound point.0 point.1
     (λ d.
-        let r = c.index-regions-index.result in
-        let b = c.partition_point-after.ensures.bound in
-        let same = c.index-regions-index.is ∙ get_or_default m (c.partition_point-after.result - 1) r d (omega (arith, b, c.if-after-eq0.false)) in
-        ap (λ x. contains x c.args.at) (sym same) ∙ sym c.has_address.ensures ∙ c.if-not-has_address.true)
+    let r = c.index-regions-index.result in
+    let b = c.partition_point-after.ensures.bound in
+    let same = c.index-regions-index.is ∙ get_or_default m (c.partition_point-after.result - 1) r d (omega (arith, b, c.if-after-eq0.false)) in
+    ap (λ x. contains x c.args.at) (sym same) ∙ sym c.has_address.ensures ∙ c.if-not-has_address.true)

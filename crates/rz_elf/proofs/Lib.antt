@@ -1,0 +1,7 @@
+pub mod Accepted
+pub mod Conditions
+pub mod HeaderList
+pub mod Loads
+pub mod PlainAccepted
+pub mod Reading
+pub mod Sound
