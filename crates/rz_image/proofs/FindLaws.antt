@@ -1,12 +1,11 @@
 -- The region of an address among regions that ascend.
-use Rattle.std.proofs.Common.{◌≡◌, ℕ, zero, suc, ◌+◌, ◌-◌, ◌^◌, ◌<◌, ◌≤◌, ◌⊎◌, inl, inr, ⊎_elim, Bool, true, false, leb, List, [], ◌∷◌, length, get_or, refl, ap, ◌∙◌, arith, leb-true}
+use Rattle.std.proofs.Common.{◌≡◌, ℕ, zero, suc, ◌+◌, ◌-◌, ◌^◌, ◌<◌, ◌≤◌, ◌⊎◌, inl, inr, ⊎_elim, true, false, leb, [], ◌∷◌, length, get_or, refl, ap, ◌∙◌, arith, leb-true}
 use Rattle.std.specs.List.{AllWithin}
 use Rattle.std.specs.List.Sorted.{IsNonDecreasingBy}
 use Rattle.std.proofs.lemmas.Bool.{cond-true, cond-false, cases_lt}
 use Rattle.std.proofs.lemmas.Bool.Decides.{nat_tests}
 use Rattle.rz_image.specs.declared.region.Region.{Region}
 use Rattle.rz_image.specs.Memory.{Regions, RegionsFit, AscendFrom, Ascend, contains, cell_in, cell_at, no_cell}
-use Rattle.rz_image.specs.Run.{HasRegion}
 use Rattle.rz_image.proofs.Cells.{apart}
 
 -- what is said of each region

@@ -1,14 +1,13 @@
 -- What a write leaves of regions that ascend.
-use Rattle.std.proofs.Common.{◌≡◌, ℕ, zero, suc, ◌+◌, ◌-◌, ◌^◌, ◌<◌, ◌≤◌, inr, Bool, true, false, ◌&&◌, if◌then◌else◌, nat_lt, List, [], ◌∷◌, ◌++◌, length, get_or, set, take, drop, None, add-one, refl, sym, ap, ap₂, ◌∙◌, subst, arith, length-set, lt-ltb, mod-eq_of_lt, append_assoc, take-suc-set, get_or-set_same}
+use Rattle.std.proofs.Common.{◌≡◌, ℕ, zero, suc, ◌+◌, ◌-◌, ◌^◌, ◌<◌, ◌≤◌, inr, Bool, true, false, ◌&&◌, if◌then◌else◌, nat_lt, List, [], ◌∷◌, ◌++◌, length, get_or, set, take, drop, add-one, refl, sym, ap, ap₂, ◌∙◌, subst, arith, length-set, lt-ltb, mod-eq_of_lt, append_assoc, take-suc-set, get_or-set_same}
 use Rattle.std.proofs.lemmas.List.{take-append-drop, set-set, set-get_or, drop-set-lt}
 use Rattle.std.proofs.lemmas.Bool.{cond-true, cond-false}
 use Rattle.std.proofs.lemmas.Bool.Decides.{nat_tests}
 use Rattle.rz_image.specs.declared.region.Region.{Region}
 use Rattle.rz_image.specs.Perm.{writes}
-use Rattle.rz_image.specs.Memory.{Cell, Regions, AscendFrom, Ascend, contains, cell_in, cell_at, wrap, put_in, put_byte, put_bytes, refused, is_writable}
+use Rattle.rz_image.specs.Memory.{Regions, AscendFrom, Ascend, contains, cell_in, cell_at, wrap, put_in, put_byte, put_bytes}
 use Rattle.rz_image.proofs.Cells.{apart, inside}
-use Rattle.rz_image.proofs.FindLaws.{fits_at, cell_found}
-use Rattle.rz_image.proofs.RunLaws.{refused_skip}
+use Rattle.rz_image.proofs.FindLaws.{fits_at}
 
 -- a byte that was put changes no place and no length
 put_keeps : (w : Bool) (r : Region) (k b : ℕ) (P : ℕ → ℕ → ℕ → Type 0) → P r.base (length r.bytes) r.opened → P (if w then record r { bytes = set r.bytes k b } else r).base (length (if w then record r { bytes = set r.bytes k b } else r).bytes) (if w then record r { bytes = set r.bytes k b } else r).opened

@@ -2,11 +2,10 @@
 use Rattle.std.proofs.Common.{◌≡◌, ℕ, zero, suc, ◌+◌, ◌-◌, ◌^◌, ◌<◌, ◌≤◌, Bool, true, false, ◌&&◌, if◌then◌else◌, nat_lt, List, [], ◌∷◌, ◌++◌, length, get_or, set, take, drop, Some, None, refl, sym, ap, ap₂, ◌∙◌, arith, length-take, length-drop, lt-ltb, le-ltb, mod-eq_of_lt, append_assoc}
 use Rattle.std.proofs.lemmas.List.{get_or-take, get_or-drop, take_at, length-take-le, length-append, take_more_set}
 use borrow.Rule.Slice.PartMut.{put_mid}
-use Rattle.std.proofs.lemmas.Bool.{and_parts}
 use Rattle.rz_image.specs.declared.access.Access.{Access}
 use Rattle.rz_image.specs.declared.access.Access.TheVariants.{Execute, Write, Read}
 use Rattle.rz_image.specs.declared.region.Region.{Region}
-use Rattle.rz_image.specs.Memory.{Cell, Regions, Ascend, contains, cell_in, cell_at, no_cell, wrap, refused, bytes_at, code_of, fetched, fetch}
+use Rattle.rz_image.specs.Memory.{Cell, Regions, Ascend, cell_in, cell_at, no_cell, wrap, refused, bytes_at, fetched, fetch}
 use Rattle.rz_image.specs.Run.{permits, allows, run_in, HasRegion, IsRun}
 use Rattle.rz_image.proofs.Cells.{inside}
 use Rattle.rz_image.proofs.FindLaws.{fits_at, cell_found}

@@ -1,5 +1,5 @@
 -- Runs of neighbouring bytes that one region opens.
-use Rattle.std.specs.Prelude.{◌≡◌, ℕ, ◌+◌, ◌-◌, ◌^◌, ◌<◌, ◌≤◌, Bool, true, false, ◌&&◌, if◌then◌else◌, nat_lt, List, [], length, take, drop, slice_index, slice_index_or}
+use Rattle.std.specs.Prelude.{◌≡◌, ℕ, ◌+◌, ◌-◌, ◌^◌, ◌<◌, ◌≤◌, Bool, true, false, if◌then◌else◌, List, [], length, take, drop, slice_index, slice_index_or}
 use Rattle.rz_image.specs.declared.access.Access.{Access}
 use Rattle.rz_image.specs.declared.access.Access.TheVariants.{Execute, Write, Read}
 use Rattle.rz_image.specs.declared.perm.Perm.{Perm}

@@ -1,4 +1,4 @@
-use Rattle.std.proofs.Common.{◌≡◌, ◌+◌, ◌-◌, ◌<◌, ◌≤◌, is_none, sym, ap, ◌∙◌, arith, mod-eq_of_lt}
+use Rattle.std.proofs.Common.{◌≡◌, ◌+◌, ◌-◌, ◌≤◌, is_none, sym, ap, ◌∙◌, arith, mod-eq_of_lt}
 use Rattle.rz_image.specs.Memory.{refused, wrap, cell_at}
 use Rattle.rz_image.specs.Run.{allows}
 use Rattle.rz_image.proofs.RunLaws.{refused_here, refused_all, refused_run}

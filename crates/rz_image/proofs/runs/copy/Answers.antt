@@ -1,5 +1,4 @@
-use Rattle.std.proofs.Common.{◌≡◌, ◌+◌, ◌-◌, ◌≤◌, ◌++◌, ◌∷◌, [], ℕ, List, length, take, ap, ap₂, sym, ◌∙◌, arith, append_assoc, append-nil}
-use Rattle.std.proofs.lemmas.List.{take_at}
+use Rattle.std.proofs.Common.{◌≡◌, ◌+◌, ◌-◌, ◌≤◌, ◌++◌, ℕ, List, length, take, ap, ap₂, sym, ◌∙◌, arith, append_assoc, append-nil}
 use Rattle.rz_image.specs.declared.access.Access.TheVariants.{Read}
 use Rattle.rz_image.specs.Memory.{bytes_at}
 use Rattle.rz_image.proofs.MemoryTurns.{bytes_turn}

@@ -1,5 +1,5 @@
-use Rattle.std.proofs.Common.{◌≡◌, ◌+◌, ◌-◌, ◌≤◌, ◌++◌, List, [], ℕ, length, take, drop, None, ap, ap₂, sym, ◌∙◌, arith, append-nil, append_assoc}
-use Rattle.std.proofs.lemmas.List.{take_at, length-take-le, length-append}
+use Rattle.std.proofs.Common.{◌≡◌, ◌+◌, ◌-◌, ◌≤◌, ◌++◌, List, ℕ, length, take, None, ap, ap₂, sym, ◌∙◌, arith, append-nil, append_assoc}
+use Rattle.std.proofs.lemmas.List.{length-take-le}
 use Rattle.rz_image.specs.Memory.{fetch, code_of, cell_at}
 use Rattle.rz_image.proofs.FindLaws.{regions_fit}
 use Rattle.rz_image.proofs.MemoryTurns.{fetch_stops, fetch_ends, code_of_none}

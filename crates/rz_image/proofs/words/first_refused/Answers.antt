@@ -1,4 +1,4 @@
-use Rattle.std.proofs.Common.{◌≡◌, ◌+◌, ◌-◌, ◌≤◌, ◌<◌, ℕ, zero, suc, length, false, true, refl, sym, ap, ap₂, subst, ◌∙◌, arith}
+use Rattle.std.proofs.Common.{◌≡◌, ◌+◌, ◌-◌, ◌<◌, length, sym, ap, ◌∙◌, arith}
 use Rattle.rz_image.specs.Memory.{refused, wrap, cell_at}
 use Rattle.rz_image.specs.Run.{allows}
 use Rattle.rz_image.proofs.RunLaws.{refused_here, refused_all, refused_next}

@@ -1,4 +1,4 @@
-use Rattle.std.proofs.Common.{◌≡◌, ◌+◌, take}
+use Rattle.std.proofs.Common.{◌≡◌, take}
 use Rattle.rz_image.specs.Memory.{Ascend, put_bytes}
 use Rattle.rz_image.proofs.words.put_each.Given as goal
 

@@ -1,4 +1,4 @@
-use Rattle.std.proofs.Common.{◌≡◌, ◌≤◌, ◌<◌, set, length, get_or, ap, sym, ◌∙◌, subst}
+use Rattle.std.proofs.Common.{◌≤◌, ◌<◌, set, length, ap, sym, ◌∙◌, subst}
 use Rattle.rz_image.specs.declared.region.Region.{Region}
 use Rattle.rz_image.specs.Memory.{Regions, Ascend, bytes_in, reopened, set_open}
 use Rattle.rz_image.proofs.FindLaws.{fits_at}
