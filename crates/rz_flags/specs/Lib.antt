@@ -1,1 +1,2 @@
 pub mod Cond
+pub mod Word
