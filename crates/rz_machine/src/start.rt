@@ -6,10 +6,10 @@ ghost use Rattle.rz_machine.specs.Start.{IsEmptyInput, empty_input, start as sta
 ghost use Rattle.rz_machine.specs.Loaded.{IsLoad, IsLoadable, loaded, loaded_region};
 
 use crate::elf::{Elf, Load};
-use crate::flags::Flags;
 use crate::machine::{Cpu, Machine};
 use crate::memory::{Memory, Perm, Region};
 use crate::sys::{Events, Input, Replies, World};
+use rz_flags::Flags;
 use rz_num::{Bytes, OutOfMemory};
 use std::alloc::Global;
 
