@@ -1,6 +1,5 @@
 -- A fragment follows its instruction.
 use Rattle.std.proofs.Common.{◌≡◌, ℕ, Bool, true, false, if◌then◌else◌, ◌%◌, ◌^◌, ◌<◌, ◌≤◌, inr, List, [], ◌∷◌, set, Option, Some, None, refl, sym, ap, ap₂, ◌∙◌, subst, arith, mod-eq_of_lt}
-use Rattle.rz_flags.specs.declared.Flags.{Flags}
 use Rattle.rz_flags.specs.declared.Cond.{Cond}
 use Rattle.rz_flags.specs.Cond.{holds}
 use Rattle.rz_flags.specs.Word.{flags_word}

@@ -3,7 +3,6 @@ use Rattle.std.proofs.Common.{◌≡◌, ℕ, ◌+◌, ◌-◌, ◌*◌, ◌^◌
 use Rattle.std.specs.List.{AllByRecursion}
 use Rattle.rz_machine.specs.declared.insn.Insn.{Insn}
 use Rattle.rz_machine.specs.declared.insn.Insn.TheVariants as insn
-use Rattle.rz_machine.specs.declared.decode.Decoded.TheVariants as decoded
 use Rattle.rz_machine.specs.declared.items.Item.{Item}
 use Rattle.rz_machine.specs.declared.items.Label.{Label}
 use Rattle.rz_machine.specs.declared.items.Label.TheVariants as label
@@ -15,7 +14,6 @@ use Rattle.rz_machine.specs.Memory.{Regions, IsOutside, SameCell, Alike, cell_at
 use Rattle.rz_machine.specs.State.{step}
 use Rattle.rz_machine.specs.Touches.{StepClear}
 use Rattle.rz_machine.specs.Start.{start, heap_region, stack_region, first_regs, first_rsp}
-use Rattle.rz_machine.specs.Nodes.{spelled_at}
 use Rattle.rz_machine.specs.First.{decode_first}
 use Rattle.rz_machine.specs.Elf.{Image}
 use Rattle.rz_machine.specs.Added.{Added, Layout, added, layout_of, all_stubs}

@@ -5,16 +5,13 @@ use Rattle.rz_machine.specs.declared.machine.End.{End}
 use Rattle.rz_machine.specs.declared.machine.End.TheVariants as end
 use Rattle.rz_machine.specs.declared.machine.Machine.{Machine}
 use Rattle.rz_machine.specs.Memory.{Regions, Range, PermsStand}
-use Rattle.rz_machine.specs.declared.insn.Insn.{Insn}
-use Rattle.rz_machine.specs.declared.decode.Decoded.TheVariants as decoded
-use Rattle.rz_machine.specs.Insn.{Decoder, IsNamed}
-use Rattle.rz_machine.specs.Nodes.{spelled_at}
+use Rattle.rz_machine.specs.Insn.{Decoder}
 use Rattle.rz_machine.specs.State.{step, after, running}
 use Rattle.rz_machine.specs.Touches.{StepClear, RunClear}
 use Rattle.rz_machine.specs.Added.{Layout}
 use Rattle.rz_machine.specs.Keeps.{Same, Edges, has_edge, Leaves, IsCut, NoCut, AlikeEnds, KeepsRun}
 use Rattle.rz_machine.specs.Pace.{IsMoment, Paced}
-use Rattle.rz_machine.proofs.CodeLaws.{HasCode, fetch_same, step_code, after_code, after_perms}
+use Rattle.rz_machine.proofs.CodeLaws.{HasCode, step_code, after_code, after_perms}
 use Rattle.rz_machine.proofs.RegLaws.{AreRegs, step_regs}
 
 -- where the new run goes where the old one goes from a to b

@@ -1,5 +1,5 @@
 -- What a run begins: its instructions stand in the file, and its edges are what the instructions lead to.
-use Rattle.std.proofs.Common.{◌≡◌, ℕ, zero, suc, ◌+◌, ◌⊎◌, inl, inr, ⊎_elim, Bool, true, false, if◌then◌else◌, ◌&&◌, ◌||◌, ◌==◌, List, [], ◌∷◌, ◌++◌, Option, Some, None, Result, Ok, Err, refl, sym, ap, ◌∙◌, subst, eqb-true, eq-eqb}
+use Rattle.std.proofs.Common.{◌≡◌, ℕ, zero, suc, ◌+◌, ◌⊎◌, inl, inr, ⊎_elim, Bool, true, false, if◌then◌else◌, ◌&&◌, ◌||◌, ◌==◌, List, [], ◌∷◌, ◌++◌, Option, Some, None, refl, sym, ap, ◌∙◌, subst, eqb-true, eq-eqb}
 use Rattle.std.proofs.lemmas.Bool.{and_parts, or_left, or_right}
 use Rattle.rz_flags.specs.declared.Flags.{Flags}
 use Rattle.rz_flags.specs.Cond.{holds}
@@ -12,7 +12,7 @@ use Rattle.rz_machine.specs.declared.machine.Machine.{Machine}
 use Rattle.rz_machine.specs.Memory.{Regions, wrap}
 use Rattle.rz_machine.specs.Insn.{Decoder, Way, Onward, Jumps, Branches, Calls, Halts, way_of, kind_in, target_in, direct_by, direct}
 use Rattle.rz_machine.specs.Effect.{Done, Went, Stopped, plain_effect, plainly, effect_by, carry, read_words}
-use Rattle.rz_machine.specs.Answer.{Called, answer}
+use Rattle.rz_machine.specs.Answer.{Called}
 use Rattle.rz_machine.specs.State.{step, after, act, perform, perform_by, perform_effect, running, after_done, after_exit, onward, decoded_at}
 use Rattle.rz_machine.specs.Begun.{begun_by, begun_at, begun, neighbours}
 use Rattle.rz_machine.specs.Nodes.{IsNode, spelled_at, is_site_at, direct_at}

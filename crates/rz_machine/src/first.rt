@@ -132,7 +132,7 @@ fn short_branch(condition: u8, bytes: &[u8], at: u64) -> Decoded
         [byte, ..] => Decoded::Insn {
             insn: Insn::Jcc {
                 cond: Cond::from_number(condition),
-                target: displace(Width::W8, at.wrapping_add(2), *byte as u64),
+                target: short_target(at, *byte),
             },
             len: 2,
         },
@@ -168,7 +168,7 @@ fn short_jump(bytes: &[u8], at: u64) -> Decoded
         [] => Decoded::Short,
         [byte, ..] => Decoded::Insn {
             insn: Insn::Jmp {
-                target: displace(Width::W8, at.wrapping_add(2), *byte as u64),
+                target: short_target(at, *byte),
             },
             len: 2,
         },
@@ -192,6 +192,13 @@ fn jump(bytes: &[u8], at: u64) -> Decoded
         },
         _ => Decoded::Short,
     }
+}
+
+// The target of a jump of two bytes at an address, by its displacement.
+fn short_target(at: u64, displacement: u8) -> u64
+    ensures { result ≡ displaced W8 (at + 2) displacement }
+{
+    displace(Width::W8, at.wrapping_add(2), displacement as u64)
 }
 
 // The address that a displacement of a width from `next` names.
