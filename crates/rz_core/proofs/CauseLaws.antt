@@ -1,5 +1,5 @@
 -- From what debloating and putting say to what the whole call says.
-use Rattle.std.proofs.Common.{◌≡◌, ℕ, ◌≤◌, ◌∙◌, ◌⊎◌, inl, inr, ⊎_elim, IsTrue, List, refl, sym, subst}
+use Rattle.std.proofs.Common.{◌≡◌, ℕ, ◌≤◌, ◌∙◌, inl, inr, ⊎_elim, IsTrue, List, refl, sym, subst}
 use Rattle.rz_outside.specs.StoreAnswers.{SameFiles, SameOthers}
 use Rattle.rz_core.specs.declared.status.Status.{Status}
 use Rattle.rz_core.specs.declared.status.Status.TheVariants as status

@@ -25,7 +25,8 @@ use Rattle.rz_machine.proofs.ThinLaws.{length-zeros}
 use Rattle.rz_core.specs.declared.added.AddedRange.{AddedRange}
 use Rattle.rz_core.specs.NewParts.{range_of, new_parts_of}
 use Rattle.rz_core.specs.Places.{Placing, address_in, nodes_of, IsPlacingOf}
-use Rattle.rz_core.proofs.FragmentLaws.{nodes_of_fragments, length-fragments, total_len-short}
+use Rattle.rz_core.proofs.FragmentLaws.{nodes_of_fragments, length-fragments}
+use Rattle.rz_machine.proofs.Emitted.{total_most}
 
 module _ (x : Image) (kept : Record) (plain : IsPlainImage x) (can : IsRewritable decode_first x kept) (room : HasRoom decode_first x kept) where
   abbrev a : Added
@@ -67,7 +68,7 @@ module _ (x : Image) (kept : Record) (plain : IsPlainImage x) (can : IsRewritabl
       let cr = code_room decode_first x kept room in
       let sr = stubs_room decode_first x kept room in
       let sl = stop_low decode_first x kept room plain in
-      let short = total_len-short decode_first x.loads kept.edges kept.nodes in
+      let short = total_most decode_first x.loads kept.edges kept.nodes in
       let many = length-fragments decode_first x.loads kept.edges kept.nodes in
       let total : total_len fs ≡ total_len frags = ap total_len e in
       let count : length fs ≡ length frags = ap length e in
@@ -139,7 +140,7 @@ module _ (x : Image) (kept : Record) (plain : IsPlainImage x) (can : IsRewritabl
     code_long : length (code_of_nodes decode_first x kept) ≤ a.stubs - a.code
     code_long =
         let long = length-fragments_bytes (address_of frags kept.nodes a) a.code frags in
-        let short = total_len-short decode_first x.loads kept.edges kept.nodes in
+        let short = total_most decode_first x.loads kept.edges kept.nodes in
         let cr = code_room decode_first x kept room in
         omega (arith, long, short, cr)
 

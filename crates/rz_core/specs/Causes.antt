@@ -1,5 +1,5 @@
 -- When the tool gives which answer, and what the files and the sink hold after it.
-use Rattle.std.specs.Prelude.{◌≡◌, ◌≢◌, ◌⊎◌, ℕ, Bool, IsTrue, List, [], take, Option, Some, None, Ok}
+use Rattle.std.specs.Prelude.{◌≡◌, ◌≢◌, ◌⊎◌, ℕ, Bool, IsTrue, List, [], take, Option, Some, None}
 use Rattle.rz_outside.specs.Counts.{Rose}
 use Rattle.rz_outside.specs.StoreAnswers.{Files, SameFiles, SameOthers, IsMissing}
 use Rattle.rz_outside.specs.SinkAnswers.{appended}

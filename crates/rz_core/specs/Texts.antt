@@ -5,7 +5,6 @@ use Rattle.rz_machine.specs.declared.elf.ElfFault.{ElfFault}
 use Rattle.rz_machine.specs.declared.elf.ElfFault.TheVariants as fault
 use Rattle.rz_core.specs.declared.status.Status.{Status}
 use Rattle.rz_core.specs.declared.status.Status.TheVariants as status
-use Rattle.rz_core.specs.declared.status.Target.{Target}
 use Rattle.rz_core.specs.declared.status.Target.TheVariants as target
 
 -- a hexadecimal number: 0x and lower-case digits

@@ -64,9 +64,13 @@ fn emit_item(item: &Item, layout: &Layout, here: u64, out: &mut Bytes) -> Result
 {
     match item {
         Item::Whole(insn) => encode(insn, here, out),
-        Item::Jump { to } => {
+        Item::Jump { cond, to } => {
             let target = layout.address(to);
-            encode(&Insn::Jmp { target }, here, out)
+            let jump = match *cond {
+                Some(cond) => Insn::Jcc { cond, target },
+                None => Insn::Jmp { target },
+            };
+            encode(&jump, here, out)
         }
     }
 }

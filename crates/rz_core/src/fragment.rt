@@ -1,6 +1,6 @@
 //! Fragments: the items that stand for each kept instruction.
 
-ghost use Rattle.std.specs.Prelude.{◌≡◌, ◌+◌, ◌^◌, ◌<◌, [], ◌∷◌, ◌++◌, length, drop, All, IfOk};
+ghost use Rattle.std.specs.Prelude.{◌≡◌, ◌+◌, ◌^◌, ◌<◌, [], ◌∷◌, ◌++◌, length, drop, None, All, IfOk};
 ghost use Rattle.rz_machine.specs.declared.items.Item.TheVariants as item;
 ghost use Rattle.rz_machine.specs.First.{decode_first, mov_number as mov_number_of};
 ghost use Rattle.rz_machine.specs.Fragments.{items_for, items_of, is_following as is_following_label, first_node, fragments, to_label, trimmed};
@@ -129,9 +129,16 @@ fn sequence(
     ensures { IfOk result (λ items. items ≡ trimmed following (items_of edges.now at next insn.now)) }
 {
     match *insn {
+        Insn::Jcc { cond, target } => {
+            let branch = Item::Jump {
+                cond: Some(cond),
+                to: label(edges, at, target),
+            };
+            going_on(alloc, &[branch], label(edges, at, next), following)
+        }
         Insn::Jmp { target } => {
             let to = label(edges, at, target);
-            Items::from_slice(alloc, &[Item::Jump { to }])
+            Items::from_slice(alloc, &[Item::Jump { cond: None, to }])
         }
         Insn::Syscall => {
             let saved_next = Item::Whole(mov_number(1, next));
@@ -190,11 +197,11 @@ fn going_on(
     following: Option<u64>,
 ) -> Result<Items, OutOfMemory>
     requires { 0 < length items.now }
-    ensures { IfOk result (λ list. list ≡ trimmed following (items.now ++ item.Jump to ∷ [])) }
+    ensures { IfOk result (λ list. list ≡ trimmed following (items.now ++ item.Jump None to ∷ [])) }
 {
     let mut list = Items::from_slice(alloc, items)?;
     if !is_following(following, to) {
-        list.push(Item::Jump { to })?;
+        list.push(Item::Jump { cond: None, to })?;
     }
     Ok(list)
 }

@@ -74,11 +74,12 @@ pub fn lay_out(
 /// The length of an item's spelling, in bytes.
 pub fn item_len(item: &Item) -> u64
     ensures value { result ≡ len_of_item item.now }
-    ensures short { result ≤ 5 }
+    ensures short { result ≤ 6 }
 {
     match item {
         Item::Whole(insn) => encoded_len(insn),
-        Item::Jump { .. } => 5,
+        Item::Jump { cond: None, .. } => 5,
+        Item::Jump { cond: Some(_), .. } => 6,
     }
 }
 

@@ -177,6 +177,50 @@ fn cut_at_the_limit(rt: HostRuntime) -> Result<(), Fail> {
     Ok(())
 }
 
+// Counts EBX down from 3 to 0, and exits with 7.
+const COUNTDOWN: [u8; 25] = [
+    0xbb, 3, 0, 0, 0, 0x83, 0xc3, 0xff, 0x83, 0xfb, 0, 0x75, 0xf8, 0xbf, 7, 0, 0, 0, 0xb8, 0x3c, 0,
+    0, 0, 0x0f, 0x05,
+];
+
+#[test]
+fn counts_down(rt: HostRuntime) -> Result<(), Fail> {
+    let alloc = rt.alloc();
+    let e = thin(alloc, &COUNTDOWN)?;
+    let line = "debloat e - exact 1000 w i";
+    let (status, text, w) = answer(&rt, alloc, line, e, &[], Vec::new(alloc))?;
+    assert_eq!(rt; status, 0);
+    let report =
+        b"{\"added\":\"0x3fd000\",\"edges\":7,\"instructions\":7,\"site_edges\":0,\"sites\":0}\n";
+    assert_eq!(rt; text.as_slice(), report.as_slice());
+    let old = read_thin(alloc, thin(alloc, &COUNTDOWN)?)?;
+    let new = written_elf(&rt, alloc, w, 25)?;
+    for elf in [&old, &new] {
+        let mut machine = start(alloc, elf, &Input::empty(alloc))?;
+        machine.run::<First>(alloc, 1000)?;
+        assert!(rt; machine.end == Some(End::Exit(7)));
+    }
+    Ok(())
+}
+
+#[test]
+fn counts_down_up_to_a_cut(rt: HostRuntime) -> Result<(), Fail> {
+    let alloc = rt.alloc();
+    let e = thin(alloc, &COUNTDOWN)?;
+    let line = "debloat e - exact 4 w i";
+    let (status, text, w) = answer(&rt, alloc, line, e, &[], Vec::new(alloc))?;
+    assert_eq!(rt; status, 0);
+    let report =
+        b"{\"added\":\"0x3fd000\",\"edges\":3,\"instructions\":4,\"site_edges\":0,\"sites\":0}\n";
+    assert_eq!(rt; text.as_slice(), report.as_slice());
+    let new = written_elf(&rt, alloc, w, 25)?;
+    let mut y = start(alloc, &new, &Input::empty(alloc))?;
+    y.run::<First>(alloc, 1000)?;
+    // The stub of 0x40100b is the fourth.
+    assert!(rt; y.end == Some(End::Illegal(0x40_0048)));
+    Ok(())
+}
+
 #[test]
 fn refusals_name_their_cause(rt: HostRuntime) -> Result<(), Fail> {
     let alloc = rt.alloc();

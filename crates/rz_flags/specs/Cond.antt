@@ -1,4 +1,5 @@
-use Rattle.std.specs.Prelude.{ℕ, List, [], ◌∷◌, slice_get, unwrap_or}
+use Rattle.std.specs.Prelude.{ℕ, ◌/◌, ◌%◌, Bool, true, false, not, ◌||◌, ◌==◌, List, [], ◌∷◌, slice_get, unwrap_or}
+use Rattle.rz_flags.specs.declared.Flags.{Flags}
 use Rattle.rz_flags.specs.declared.Cond.{Cond}
 use Rattle.rz_flags.specs.declared.Cond.TheVariants.{O, NO, B, AE, E, NE, BE, A, S, NS, P, NP, L, GE, LE, G}
 
@@ -27,3 +28,16 @@ number_of L = 12
 number_of GE = 13
 number_of LE = 14
 number_of G = 15
+
+abbrev pub differ : Bool → Bool → Bool
+differ true b = not b
+differ false b = b
+
+-- the eight tests, in the order of the numbers halved: the condition of an even number is one of them, and that of the
+-- odd number after it is its negation
+abbrev pub tests : Flags → List Bool
+tests f = f.of ∷ f.cf ∷ f.zf ∷ (f.cf || f.zf) ∷ f.sf ∷ f.pf ∷ differ f.sf f.of ∷ (f.zf || differ f.sf f.of) ∷ []
+
+-- whether a condition holds of the flags
+abbrev pub holds : Cond → Flags → Bool
+holds c f = differ (number_of c % 2 == 1) (unwrap_or (slice_get (tests f) (number_of c / 2)) false)

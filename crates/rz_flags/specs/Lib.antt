@@ -1,1 +1,3 @@
 pub mod Cond
+pub mod Word
+pub mod CondLaws

@@ -2,7 +2,8 @@
 #![tactic(auto)]
 
 ghost use Rattle.std.specs.Prelude.{◌≡◌, ◌<◌};
-ghost use Rattle.rz_flags.specs.Cond.{cond_of as cond_of_number, number_of};
+ghost use Rattle.rz_flags.specs.Cond.{cond_of as cond_of_number, number_of, holds as holds_for};
+ghost use Rattle.rz_flags.specs.Word.{flags_word, bit_of};
 
 /// The status flags CF, PF, AF, ZF, SF and OF and the control flag DF of RFLAGS
 /// (Intel SDM, volume 1, section 3.4.3).
@@ -161,4 +162,50 @@ impl Cond {
             Cond::G => 15,
         }
     }
+}
+
+/// Whether a condition holds of the flags (Intel SDM, volume 2, appendix B.1, "Condition Test Field").
+pub fn holds(cond: Cond, flags: Flags) -> bool
+    ensures { result ≡ holds_for cond flags }
+{
+    match cond {
+        Cond::O => flags.of,
+        Cond::NO => !flags.of,
+        Cond::B => flags.cf,
+        Cond::AE => !flags.cf,
+        Cond::E => flags.zf,
+        Cond::NE => !flags.zf,
+        Cond::BE => flags.cf || flags.zf,
+        Cond::A => !(flags.cf || flags.zf),
+        Cond::S => flags.sf,
+        Cond::NS => !flags.sf,
+        Cond::P => flags.pf,
+        Cond::NP => !flags.pf,
+        Cond::L => flags.sf != flags.of,
+        Cond::GE => flags.sf == flags.of,
+        Cond::LE => flags.zf || flags.sf != flags.of,
+        Cond::G => !flags.zf && flags.sf == flags.of,
+    }
+}
+
+/// The flags as a word: each at its place (CF 0, PF 2, AF 4, ZF 6, SF 7, DF 10, OF 11), and 0x202, the two bits that
+/// are always set (Intel SDM, volume 1, section 3.4.3).
+pub fn to_word(flags: Flags) -> u64
+    ensures { result ≡ flags_word flags }
+{
+    0x202
+        + bit(flags.cf, 1)
+        + bit(flags.pf, 4)
+        + bit(flags.af, 16)
+        + bit(flags.zf, 64)
+        + bit(flags.sf, 128)
+        + bit(flags.df, 1024)
+        + bit(flags.of, 2048)
+}
+
+// The worth of a flag's place where it is set.
+fn bit(on: bool, worth: u64) -> u64
+    ensures { result ≡ bit_of on worth }
+{
+    if on { worth } else { 0 }
 }

@@ -1,12 +1,12 @@
 -- The parts that are added to a thin file under the first table: their sizes and places.
-use Rattle.std.proofs.Common.{◌≡◌, ℕ, ◌-◌, ◌*◌, ◌%◌, ◌<◌, ◌≤◌, Bool, true, false, if◌then◌else◌, nat_le, ◌==◌, ◌&&◌, List, [], ◌∷◌, length, refl, sym, ap, ap₂, ◌∙◌, subst, arith}
+use Rattle.std.proofs.Common.{◌≡◌, ℕ, ◌-◌, ◌*◌, ◌%◌, ◌<◌, ◌≤◌, Bool, false, List, [], ◌∷◌, length, refl, sym, ap, ap₂, ◌∙◌, subst, arith}
 use Rattle.rz_machine.specs.declared.decode.Decoded.{Decoded}
 use Rattle.rz_machine.specs.declared.decode.Decoded.TheVariants as decoded
 use Rattle.rz_machine.specs.declared.trace.Record.{Record}
 use Rattle.rz_machine.specs.Memory.{Regions, fetch}
-use Rattle.rz_machine.specs.Insn.{kind_of, is_site}
+use Rattle.rz_machine.specs.Insn.{Way, Onward, Jumps, Branches, Calls, Halts, way_of, kind_in, kind_of, is_site}
 use Rattle.rz_machine.specs.Nodes.{is_site_at}
-use Rattle.rz_machine.specs.First.{decode_first, jmp_of, mov_of, second_of}
+use Rattle.rz_machine.specs.First.{decode_first}
 use Rattle.rz_machine.specs.Elf.{image_of, fault_of}
 use Rattle.rz_machine.specs.Added.{Added, sites, site_edges, tables_size, code_size, stubs_size, parts_below, added, all_stubs, filled}
 use Rattle.rz_machine.specs.WrittenFile.{Parts, IsAdded, stubs_part, written_file, new_image, Inert}
@@ -20,39 +20,22 @@ abbrev is_site_of : Decoded → Bool
 is_site_of (decoded.Insn x len) = is_site (kind_of x)
 is_site_of _ = false
 
-jmp_no_site : (at : ℕ) (s : List ℕ) → is_site_of (jmp_of at s) ≡ false
-jmp_no_site at [] = refl
-jmp_no_site at (a ∷ []) = refl
-jmp_no_site at (a ∷ b ∷ []) = refl
-jmp_no_site at (a ∷ b ∷ c ∷ []) = refl
-jmp_no_site at (a ∷ b ∷ c ∷ d ∷ rest) = refl
-
-mov_no_site : (r : ℕ) (s : List ℕ) → is_site_of (mov_of r s) ≡ false
-mov_no_site r [] = refl
-mov_no_site r (a ∷ []) = refl
-mov_no_site r (a ∷ b ∷ []) = refl
-mov_no_site r (a ∷ b ∷ c ∷ []) = refl
-mov_no_site r (a ∷ b ∷ c ∷ d ∷ rest) = refl
-
-either_no_site : (t : Bool) (x y : Decoded) → is_site_of x ≡ false → is_site_of y ≡ false → is_site_of (if t then x else y) ≡ false
-either_no_site true x y h k = h
-either_no_site false x y h k = k
-
-second_no_site : (s : List ℕ) → is_site_of (second_of s) ≡ false
-second_no_site [] = refl
-second_no_site (b ∷ rest) = either_no_site (b == 0x05) _ _ refl (either_no_site (b == 0x0b) _ _ refl refl)
-
-first_no_site : (s : List ℕ) (at : ℕ) → is_site_of (decode_first s at) ≡ false
-unfolding decode_first
-first_no_site [] at = refl
-first_no_site (b ∷ rest) at =
-    either_no_site (b == 0xe9) _ _ (jmp_no_site at rest)
-    (either_no_site (b == 0x0f) _ _ (second_no_site rest)
-    (either_no_site (nat_le 0xb8 b && nat_le b 0xbf) _ _ (mov_no_site (b - 0xb8) rest) refl))
+-- no instruction is one yet
+no_site : (d : Decoded) → is_site_of d ≡ false
+no_site (decoded.Insn x len) = go (way_of x)
+  where
+    go : (w : Way) → is_site (kind_in w) ≡ false
+    go Onward = refl
+    go (Jumps target) = refl
+    go (Branches cond target) = refl
+    go Calls = refl
+    go Halts = refl
+no_site decoded.Short = refl
+no_site decoded.Unknown = refl
 
 -- the first table has no returns and no indirect transfers
 pub is_site_at-first : (m : Regions) (a : ℕ) → is_site_at decode_first m a ≡ false
-is_site_at-first m a = first_no_site (fetch m a 15) a
+is_site_at-first m a = no_site (decode_first (fetch m a 15) a)
 
 pub sites-first : (m : Regions) (nodes : List ℕ) → sites decode_first m nodes ≡ []
 sites-first m [] = refl

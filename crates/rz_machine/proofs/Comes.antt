@@ -1,14 +1,16 @@
 -- The new run comes to a place, by one instruction after the other.
-use Rattle.std.proofs.Common.{◌≡◌, ℕ, suc, ◌+◌, ◌≤◌, None, refl, sym, ap, ◌∙◌, subst, arith}
+use Rattle.std.proofs.Common.{◌≡◌, ℕ, suc, ◌+◌, ◌≤◌, Bool, true, false, if◌then◌else◌, Some, None, refl, sym, ap, ◌∙◌, subst, arith}
+use Rattle.rz_flags.specs.declared.Cond.{Cond}
+use Rattle.rz_flags.specs.Cond.{holds}
 use Rattle.rz_machine.specs.declared.insn.Insn.{Insn}
 use Rattle.rz_machine.specs.declared.insn.Insn.TheVariants as insn
 use Rattle.rz_machine.specs.declared.decode.Decoded.TheVariants as decoded
 use Rattle.rz_machine.specs.declared.machine.End.TheVariants as end
 use Rattle.rz_machine.specs.declared.machine.Machine.{Machine}
 use Rattle.rz_machine.specs.Memory.{Regions, Range, fetch, wrap}
-use Rattle.rz_machine.specs.Insn.{Decoder}
+use Rattle.rz_machine.specs.Insn.{Decoder, Jumps, Branches, Halts, way_of}
 use Rattle.rz_machine.specs.Effect.{carry, read_words}
-use Rattle.rz_machine.specs.State.{step, after, running, act, perform, stopped, decoded_at}
+use Rattle.rz_machine.specs.State.{step, after, running, act, perform, perform_by, onward, stopped, decoded_at}
 use Rattle.rz_machine.specs.Keeps.{Same}
 use Rattle.rz_machine.proofs.CodeLaws.{HasCode, fetch_same}
 use Rattle.rz_machine.proofs.Placed.{InsnAt}
@@ -24,15 +26,28 @@ unfolding step
 step_is dec m p x next at t runs r h =
     ap (λ o. running o dec t) runs ∙ ap (λ d. act d t) (decodes_to dec m p x next at t r h) ∙ ap (λ n. perform x n t) (ap (λ a. wrap (a + at.len)) r ∙ at.ends)
 
--- a jump moves RIP alone
-pub jump_is : (q next : ℕ) (t : Machine) → perform (insn.Jmp q) next t ≡ record t { cpu = record t.cpu { rip = q } }
-unfolding carry read_words
-jump_is q next t = refl
+-- with RIP at another address
+abbrev pub moved : ℕ → Machine → Machine
+moved q t = record t { cpu = record t.cpu { rip = q } }
 
--- UD2 ends the run
-pub ud2_is : (next : ℕ) (t : Machine) → perform insn.Ud2 next t ≡ stopped (end.Illegal t.cpu.rip) t
+-- a jump moves RIP alone
+pub jump_is : (x : Insn) (q next : ℕ) (t : Machine) → way_of x ≡ Jumps q → perform x next t ≡ moved q t
 unfolding carry read_words
-ud2_is next t = refl
+jump_is x q next t is = ap (λ w. perform_by w x next t) is
+
+-- a conditional one too
+pub branch_is : (x : Insn) (c : Cond) (q next : ℕ) (t : Machine) → way_of x ≡ Branches c q → perform x next t ≡ moved (if holds c t.cpu.flags then q else next) t
+unfolding carry read_words
+branch_is x c q next t is = ap (λ w. perform_by w x next t) is ∙ go (holds c t.cpu.flags)
+  where
+    go : (b : Bool) → moved (onward (if b then Some q else None) next) t ≡ moved (if b then q else next) t
+    go true = refl
+    go false = refl
+
+-- what ends the run leaves the rest
+pub halt_is : (x : Insn) (next : ℕ) (t : Machine) → way_of x ≡ Halts → perform x next t ≡ stopped (end.Illegal t.cpu.rip) t
+unfolding carry read_words
+halt_is x next t is = ap (λ w. perform_by w x next t) is
 
 -- the new run comes to a place, in a state the same as one of the old run's, after `least` to `most` steps
 pub record Comes (dec : Decoder) (r : Range) (s t : Machine) (least most q : ℕ) : Type 0 where
@@ -73,15 +88,15 @@ same_moved r s t p q h = record { regs = h.regs; flags = h.flags; world = h.worl
 -- by a jump
 pub jump_comes : (dec : Decoder) (r : Range) (m : Regions) (p q next : ℕ) → InsnAt dec m p (insn.Jmp q) next → (s t : Machine) → t.end ≡ None → t.cpu.rip ≡ p → HasCode m t.mem → Same r s t → Comes dec r s t 1 1 q
 jump_comes dec r m p q next at s t runs rip h same =
-    let t' : Machine = record t { cpu = record t.cpu { rip = q } } in
-    one_more dec r s t t' 0 0 q (step_is dec m p (insn.Jmp q) next at t runs rip h ∙ jump_is q next t) (stay dec r s t' q runs refl (record { regs = same.regs; flags = same.flags; world = same.world; mem = same.mem }))
+    let t' : Machine = moved q t in
+    one_more dec r s t t' 0 0 q (step_is dec m p (insn.Jmp q) next at t runs rip h ∙ jump_is (insn.Jmp q) q next t refl) (stay dec r s t' q runs refl (record { regs = same.regs; flags = same.flags; world = same.world; mem = same.mem }))
 
 -- from the place p a run comes to q: the two are one, or a jump stands there
 pub data Onto (dec : Decoder) (m : Regions) (p q : ℕ) : Type 0 where
   Falls : p ≡ q → Onto dec m p q
-  Jumps : (next : ℕ) → InsnAt dec m p (insn.Jmp q) next → Onto dec m p q
+  ByJump : (next : ℕ) → InsnAt dec m p (insn.Jmp q) next → Onto dec m p q
 
 -- by no step or by one
 pub onto : (dec : Decoder) (r : Range) (m : Regions) (p q : ℕ) → Onto dec m p q → (s t : Machine) → t.end ≡ None → t.cpu.rip ≡ p → HasCode m t.mem → Same r s t → Comes dec r s t 0 1 q
 onto dec r m p q (Falls e) s t runs rip h same = weaker dec r s t 0 0 0 1 q (omega arith) (omega arith) (stay dec r s t q runs (rip ∙ e) same)
-onto dec r m p q (Jumps next at) s t runs rip h same = weaker dec r s t 1 1 0 1 q (omega arith) (omega arith) (jump_comes dec r m p q next at s t runs rip h same)
+onto dec r m p q (ByJump next at) s t runs rip h same = weaker dec r s t 1 1 0 1 q (omega arith) (omega arith) (jump_comes dec r m p q next at s t runs rip h same)

@@ -24,8 +24,8 @@ length-fragments_bytes at from (f ∷ rest) =
     length-append (items_bytes at from f.items) (fragments_bytes at (from + items_len f.items) rest)
     ∙ ap₂ ◌+◌ (length-items at from f.items) (length-fragments_bytes at (from + items_len f.items) rest)
 
--- the items of what is decoded take at most 12 bytes
-length-items_for : (edges : Edges) (a : ℕ) (d : Decoded) → items_len (items_for edges a d) ≤ 12
+-- the items of what is decoded take at most 32 bytes
+length-items_for : (edges : Edges) (a : ℕ) (d : Decoded) → items_len (items_for edges a d) ≤ 32
 length-items_for edges a (decoded.Insn x len) = length-items_of edges a (wrap (a + len)) x
 length-items_for edges a decoded.Short = omega arith
 length-items_for edges a decoded.Unknown = omega arith
@@ -75,8 +75,8 @@ module _ (dec : Decoder) (x : Regions) (edges : Edges) where
   pub place_from : (nodes : List ℕ) (from a : ℕ) → has_node nodes a ≡ true → from ≤ place_in (frags nodes) from a
   place_from nodes from a e = place_high (frags nodes) from a (has_frag nodes a ∙ e)
 
-  -- at most 12 bytes a fragment
-  pub total_most : (nodes : List ℕ) → total_len (frags nodes) ≤ 12 * length nodes
+  -- at most 32 bytes a fragment
+  pub total_most : (nodes : List ℕ) → total_len (frags nodes) ≤ 32 * length nodes
   total_most [] = omega arith
   total_most (a ∷ rest) =
       let all = items_for edges a (spelled_at dec x a) in

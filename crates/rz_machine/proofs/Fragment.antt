@@ -1,31 +1,30 @@
 -- A fragment follows its instruction.
-use Rattle.std.proofs.Common.{◌≡◌, ℕ, ◌%◌, ◌^◌, ◌<◌, ◌≤◌, inr, List, [], ◌∷◌, set, Option, Some, None, refl, sym, ap, ap₂, ◌∙◌, subst, arith, mod-eq_of_lt}
-use Rattle.rz_machine.specs.declared.flags.Flags.{Flags}
-use Rattle.rz_machine.specs.declared.insn.Reg.TheVariants.{R}
-use Rattle.rz_machine.specs.declared.insn.Place.TheVariants.{Reg}
-use Rattle.rz_machine.specs.declared.insn.Operand.TheVariants.{Imm}
+use Rattle.std.proofs.Common.{◌≡◌, ℕ, Bool, true, false, if◌then◌else◌, ◌%◌, ◌^◌, ◌<◌, ◌≤◌, inr, List, [], ◌∷◌, set, Option, Some, None, refl, sym, ap, ap₂, ◌∙◌, subst, arith, mod-eq_of_lt}
+use Rattle.rz_flags.specs.declared.Cond.{Cond}
+use Rattle.rz_flags.specs.Cond.{holds}
+use Rattle.rz_flags.specs.Word.{flags_word}
 use Rattle.rz_machine.specs.declared.insn.Insn.{Insn}
 use Rattle.rz_machine.specs.declared.insn.Insn.TheVariants as insn
 use Rattle.rz_machine.specs.declared.decode.Decoded.{Decoded}
-use Rattle.rz_machine.specs.declared.decode.Decoded.TheVariants as decoded
 use Rattle.rz_machine.specs.declared.machine.End.{End}
 use Rattle.rz_machine.specs.declared.machine.End.TheVariants as end
 use Rattle.rz_machine.specs.declared.machine.Machine.{Machine}
 use Rattle.rz_machine.specs.declared.sys.World.{World}
 use Rattle.rz_machine.specs.Memory.{Regions, IsInside}
-use Rattle.rz_machine.specs.Insn.{Decoder}
+use Rattle.rz_machine.specs.Insn.{Decoder, Way, Onward, Jumps, Branches, Calls, Halts, way_of}
 use Rattle.rz_machine.specs.First.{mov_number}
-use Rattle.rz_machine.specs.Effect.{Effect, effect, Done, Went, Stopped, carry, read_words, EffectClear}
+use Rattle.rz_machine.specs.Effect.{Effect, PlainEffect, plain_effect, plainly, effect_by, Done, Went, Stopped, carry, read_words, EffectClear}
 use Rattle.rz_machine.specs.Answer.{Called, answer, call_in, rdi, rsi, rdx, world_after}
-use Rattle.rz_machine.specs.State.{step, after, perform, perform_effect, after_done, after_call, after_exit, onward, stopped, flags_word}
-use Rattle.rz_machine.specs.Touches.{StepClear, InsnClear}
+use Rattle.rz_machine.specs.State.{step, after, perform, perform_by, perform_effect, after_done, after_call, after_exit, onward, stopped}
+use Rattle.rz_machine.specs.Touches.{StepClear, InsnClear, WayClear}
 use Rattle.rz_machine.specs.Added.{Layout}
 use Rattle.rz_machine.specs.Keeps.{Same, Edges, AlikeEnds}
+use Rattle.rz_machine.proofs.Outcomes.{DoneHas, carry_has}
 use Rattle.rz_machine.proofs.CodeLaws.{HasCode, step_code}
 use Rattle.rz_machine.proofs.OneForm.{DoneAlike, carry_alike, CalledAlike, call_alike}
 use Rattle.rz_machine.proofs.Runs.{dest, Follows, Stand}
 use Rattle.rz_machine.proofs.Placed.{InsnAt}
-use Rattle.rz_machine.proofs.Comes.{decodes_to, step_is, jump_is, ud2_is, Comes, one_more, weaker, jump_comes, Onto, onto}
+use Rattle.rz_machine.proofs.Comes.{decodes_to, step_is, moved, jump_is, branch_is, halt_is, Comes, stay, one_more, weaker, jump_comes, Onto, onto}
 
 -- RCX is set anew
 rcx_again : (regs : List ℕ) (x y z w : ℕ) → set (set (set (set regs 0 x) 1 y) 11 z) 1 w ≡ set (set (set regs 0 x) 1 w) 11 z
@@ -41,13 +40,18 @@ mov_is r v next t low =
     let e : v % 2 ^ 32 ≡ v = mod-eq_of_lt low in
     ap P e
 
+abbrev pub FragmentBy : Way → Decoder → Edges → Layout → (ℕ → ℕ) → Regions → ℕ → ℕ → Insn → Type 0
+FragmentBy Onward dec edges lay place wm a n x = (p : ℕ) × InsnAt dec wm (place a) x p × Onto dec wm p (dest edges place lay.stub a n)
+FragmentBy (Jumps b) dec edges lay place wm a n x = (p : ℕ) × InsnAt dec wm (place a) (insn.Jmp (dest edges place lay.stub a b)) p
+FragmentBy (Branches c b) dec edges lay place wm a n x =
+    (p : ℕ) × InsnAt dec wm (place a) (insn.Jcc c (dest edges place lay.stub a b)) p × Onto dec wm p (dest edges place lay.stub a n)
+FragmentBy Calls dec edges lay place wm a n x =
+    (p q : ℕ) × (n < 2 ^ 32) × InsnAt dec wm (place a) x p × InsnAt dec wm p (mov_number 1 n) q × Onto dec wm q (dest edges place lay.stub a n)
+FragmentBy Halts dec edges lay place wm a n x = (p : ℕ) × InsnAt dec wm (place a) x p × IsInside lay.code (place a)
+
 -- the fragment of the instruction at a, before n, stands at the place of a
 abbrev pub FragmentAt : Decoder → Edges → Layout → (ℕ → ℕ) → Regions → ℕ → ℕ → Insn → Type 0
-FragmentAt dec edges lay place wm a n (insn.Mov w dst src) = (p : ℕ) × InsnAt dec wm (place a) (insn.Mov w dst src) p × Onto dec wm p (dest edges place lay.stub a n)
-FragmentAt dec edges lay place wm a n (insn.Jmp b) = (p : ℕ) × InsnAt dec wm (place a) (insn.Jmp (dest edges place lay.stub a b)) p
-FragmentAt dec edges lay place wm a n insn.Syscall =
-    (p q : ℕ) × (n < 2 ^ 32) × InsnAt dec wm (place a) insn.Syscall p × InsnAt dec wm p (mov_number 1 n) q × Onto dec wm q (dest edges place lay.stub a n)
-FragmentAt dec edges lay place wm a n insn.Ud2 = (p : ℕ) × InsnAt dec wm (place a) insn.Ud2 p × IsInside lay.code (place a)
+FragmentAt dec edges lay place wm a n x = FragmentBy (way_of x) dec edges lay place wm a n x
 
 module _ (dec : Decoder) (edges : Edges) (lay : Layout) (place bound : ℕ → ℕ) (room : (a : ℕ) → 3 ≤ bound a) (xm wm : Regions) where
   abbrev To : ℕ → ℕ → ℕ
@@ -71,9 +75,11 @@ module _ (dec : Decoder) (edges : Edges) (lay : Layout) (place bound : ℕ → �
   same_ends end.Popped h = refl
 
   -- a plain instruction goes on to the next address, or ends at no place
+  abbrev IsNext : Option ℕ → Type 0
+  IsNext to = to ≡ None
+
   abbrev IsPlain : Done → Type 0
-  IsPlain (Went regs flags mem to) = to ≡ None
-  IsPlain (Stopped why) = NoPlace why
+  IsPlain d = DoneHas IsNext NoPlace (λ a. tt) d
 
   -- both runs end
   ends_now : (a : ℕ) (s t t' : Machine) (why why' : End) → step dec t ≡ t' → s.end ≡ Some why → t'.end ≡ Some why' → AlikeEnds lay.code (Some why) (Some why') → Same lay.added s t' → Follows dec edges lay place bound a s t
@@ -115,52 +121,86 @@ module _ (dec : Decoder) (edges : Edges) (lay : Layout) (place bound : ℕ → �
   done_follows a n p s t (Went regs flags mem to) (Stopped why) alike plain st e code ahead = absurd alike
   done_follows a n p s t (Stopped why) (Went regs flags mem to) alike plain st e code ahead = absurd alike
 
+  -- the same effect
+  effect_same : (x : Insn) (s t : Machine) → Same lay.added s t → plain_effect x s.cpu.regs s.cpu.flags ≡ plain_effect x t.cpu.regs t.cpu.flags
+  effect_same x s t same = ap₂ (λ r g. plain_effect x r g) same.regs same.flags
+
   -- a plain instruction as it is, whatever its effect
-  pub plain_follows : (x : Insn) (a n p : ℕ) (s t : Machine) → InsnAt dec xm a x n → InsnAt dec wm (place a) x p → Onto dec wm p (To a n)
-      → ((next : ℕ) (u : Machine) → perform x next u ≡ perform_effect x next u)
-      → ((i k : ℕ) (regs : List ℕ) (flags : Flags) → effect x i regs flags ≡ effect x k regs flags)
-      → IsPlain (carry (effect x s.cpu.rip s.cpu.regs s.cpu.flags) s.mem)
-      → EffectClear lay.added (effect x s.cpu.rip s.cpu.regs s.cpu.flags) s.mem
+  plain_follows : (x : Insn) (a n p : ℕ) (s t : Machine) → way_of x ≡ Onward → InsnAt dec xm a x n → InsnAt dec wm (place a) x p → Onto dec wm p (To a n)
+      → EffectClear lay.added (effect_by Onward x s.cpu.rip s.cpu.regs s.cpu.flags) s.mem
       → s.cpu.rip ≡ a → Stand lay place xm wm s t → Follows dec edges lay place bound a (step dec s) t
-  plain_follows x a n p s t old new ahead form any plain clear rip st =
+  plain_follows x a n p s t is old new ahead clear rip st =
       let there : t.cpu.rip ≡ place a = st.there ∙ ap place rip in
-      let d = carry (effect x s.cpu.rip s.cpu.regs s.cpu.flags) s.mem in
-      let d' = carry (effect x t.cpu.rip t.cpu.regs t.cpu.flags) t.mem in
+      let v : Effect = plainly (plain_effect x s.cpu.regs s.cpu.flags) in
+      let d : Done = carry v s.mem in
+      let d' : Done = carry (plainly (plain_effect x t.cpu.regs t.cpu.flags)) t.mem in
+      let form : (next : ℕ) (u : Machine) → perform x next u ≡ perform_effect Onward x next u = λ next u. ap (λ w. perform_by w x next u) is in
       let e : step dec t ≡ after_done d' p t = step_is dec wm (place a) x p new t st.new_runs there st.new_code ∙ form p t in
       let f : step dec s ≡ after_done d n s = step_is dec xm a x n old s st.old_runs rip st.old_code ∙ form n s in
-      let same : effect x s.cpu.rip s.cpu.regs s.cpu.flags ≡ effect x t.cpu.rip t.cpu.regs t.cpu.flags =
-      any s.cpu.rip t.cpu.rip s.cpu.regs s.cpu.flags ∙ ap₂ (λ r g. effect x t.cpu.rip r g) st.same.regs st.same.flags in
-      let P : Effect → Type 0 = λ v. DoneAlike lay.added d (carry v t.mem) in
-      let alike : DoneAlike lay.added d d' = subst P same (carry_alike lay.added s.mem t.mem (effect x s.cpu.rip s.cpu.regs s.cpu.flags) clear st.same.mem) in
+      let P : PlainEffect → Type 0 = λ q. DoneAlike lay.added d (carry (plainly q) t.mem) in
+      let alike : DoneAlike lay.added d d' = subst P (effect_same x s t st.same) (carry_alike lay.added s.mem t.mem v clear st.same.mem) in
+      let plain : IsPlain d = carry_has IsNext NoPlace (λ a. tt) v s.mem (λ words. refl) in
       let C : Machine → Type 0 = λ u. HasCode wm u.mem in
       let code : HasCode wm (after_done d' p t).mem = subst C e (step_code wm dec t st.new_code) in
       let Q : Machine → Type 0 = λ u. Follows dec edges lay place bound a u t in
       subst Q (sym f) (done_follows a n p s t d d' alike plain st e code ahead)
 
   -- what the step's accesses say of the instruction that stands there
-  insn_clear : (x : Insn) (a n : ℕ) (s : Machine) (at : InsnAt dec xm a x n) → s.cpu.rip ≡ a → s.end ≡ None → HasCode xm s.mem → StepClear lay.added dec s → InsnClear lay.added (decoded.Insn x at.len) s
+  insn_clear : (x : Insn) (w : Way) (a n : ℕ) (s : Machine) → way_of x ≡ w → InsnAt dec xm a x n → s.cpu.rip ≡ a → s.end ≡ None → HasCode xm s.mem → StepClear lay.added dec s → WayClear lay.added w x s
   unfolding StepClear
-  insn_clear x a n s at rip runs code clear =
+  insn_clear x w a n s is at rip runs code clear =
       let P : Decoded → Type 0 = λ d. InsnClear lay.added d s in
-      subst P (decodes_to dec xm a x n at s rip code) (clear runs)
+      let W : Way → Type 0 = λ v. WayClear lay.added v x s in
+      subst W is (subst P (decodes_to dec xm a x n at s rip code) (clear runs))
+
+  -- states that are the same but for RIP
+  moved_same : (s t : Machine) (p q : ℕ) → Same lay.added s t → Same lay.added (moved p s) (moved q t)
+  moved_same s t p q same = record { regs = same.regs; flags = same.flags; world = same.world; mem = same.mem }
 
   -- a jump becomes one to its label
-  jmp_follows : (a b n p : ℕ) (s t : Machine) → InsnAt dec xm a (insn.Jmp b) n → InsnAt dec wm (place a) (insn.Jmp (To a b)) p → s.cpu.rip ≡ a → Stand lay place xm wm s t → Follows dec edges lay place bound a (step dec s) t
-  jmp_follows a b n p s t old new rip st =
+  jump_follows : (x : Insn) (a b n p : ℕ) (s t : Machine) → way_of x ≡ Jumps b → InsnAt dec xm a x n → InsnAt dec wm (place a) (insn.Jmp (To a b)) p → s.cpu.rip ≡ a → Stand lay place xm wm s t → Follows dec edges lay place bound a (step dec s) t
+  jump_follows x a b n p s t is old new rip st =
       let there : t.cpu.rip ≡ place a = st.there ∙ ap place rip in
-      let s1 : Machine = record s { cpu = record s.cpu { rip = b } } in
-      let f : step dec s ≡ s1 = step_is dec xm a (insn.Jmp b) n old s st.old_runs rip st.old_code ∙ jump_is b n s in
+      let s1 : Machine = moved b s in
+      let f : step dec s ≡ s1 = step_is dec xm a x n old s st.old_runs rip st.old_code ∙ jump_is x b n s is in
       let Q : Machine → Type 0 = λ u. Follows dec edges lay place bound a u t in
       let same : Same lay.added s1 t = record { regs = st.same.regs; flags = st.same.flags; world = st.same.world; mem = st.same.mem } in
       let c = jump_comes dec lay.added wm (place a) (To a b) p new s1 t st.new_runs there st.new_code same in
       subst Q (sym f) (goes_now a s1 t st.old_runs (weaker dec lay.added s1 t 1 1 1 3 (To a b) (omega arith) (omega arith) c))
 
-  -- UD2 stays, and its address lies in the code part
-  ud2_follows : (a n p : ℕ) (s t : Machine) → InsnAt dec xm a insn.Ud2 n → InsnAt dec wm (place a) insn.Ud2 p → IsInside lay.code (place a) → s.cpu.rip ≡ a → Stand lay place xm wm s t → Follows dec edges lay place bound a (step dec s) t
-  ud2_follows a n p s t old new inside rip st =
+  -- a conditional jump becomes one to its label, and then the way to the next address
+  branch_follows : (x : Insn) (c : Cond) (a b n p : ℕ) (s t : Machine) → way_of x ≡ Branches c b → InsnAt dec xm a x n → InsnAt dec wm (place a) (insn.Jcc c (To a b)) p → Onto dec wm p (To a n)
+      → s.cpu.rip ≡ a → Stand lay place xm wm s t → Follows dec edges lay place bound a (step dec s) t
+  branch_follows x c a b n p s t is old new ahead rip st =
       let there : t.cpu.rip ≡ place a = st.there ∙ ap place rip in
-      let f : step dec s ≡ stopped (end.Illegal s.cpu.rip) s = step_is dec xm a insn.Ud2 n old s st.old_runs rip st.old_code ∙ ud2_is n s in
-      let e : step dec t ≡ stopped (end.Illegal t.cpu.rip) t = step_is dec wm (place a) insn.Ud2 p new t st.new_runs there st.new_code ∙ ud2_is p t in
+      let v : Bool = holds c s.cpu.flags in
+      let f : step dec s ≡ moved (if v then b else n) s = step_is dec xm a x n old s st.old_runs rip st.old_code ∙ branch_is x c b n s is in
+      let e : step dec t ≡ moved (if v then To a b else p) t =
+      step_is dec wm (place a) (insn.Jcc c (To a b)) p new t st.new_runs there st.new_code ∙ branch_is (insn.Jcc c (To a b)) c (To a b) p t refl
+      ∙ ap (λ g. moved (if holds c g then To a b else p) t) (sym st.same.flags) in
+      let Q : Machine → Type 0 = λ u. Follows dec edges lay place bound a u t in
+      subst Q (sym f) (go v e)
+    where
+      go : (v : Bool) → step dec t ≡ moved (if v then To a b else p) t → Follows dec edges lay place bound a (moved (if v then b else n) s) t
+      go true e =
+          let s1 : Machine = moved b s in
+          let t1 : Machine = moved (To a b) t in
+          let here = stay dec lay.added s1 t1 (To a b) st.new_runs refl (moved_same s t b (To a b) st.same) in
+          let k = one_more dec lay.added s1 t t1 0 0 (To a b) e here in
+          goes_now a s1 t st.old_runs (weaker dec lay.added s1 t 1 1 1 3 (To a b) (omega arith) (omega arith) k)
+      go false e =
+          let s1 : Machine = moved n s in
+          let t1 : Machine = moved p t in
+          let last = onto dec lay.added wm p (To a n) ahead s1 t1 st.new_runs refl st.new_code (moved_same s t n p st.same) in
+          let k = one_more dec lay.added s1 t t1 0 1 (To a n) e last in
+          goes_now a s1 t st.old_runs (weaker dec lay.added s1 t 1 2 1 3 (To a n) (omega arith) (omega arith) k)
+
+  -- what ends the run stays, and its address lies in the code part
+  halt_follows : (x : Insn) (a n p : ℕ) (s t : Machine) → way_of x ≡ Halts → InsnAt dec xm a x n → InsnAt dec wm (place a) x p → IsInside lay.code (place a) → s.cpu.rip ≡ a → Stand lay place xm wm s t → Follows dec edges lay place bound a (step dec s) t
+  halt_follows x a n p s t is old new inside rip st =
+      let there : t.cpu.rip ≡ place a = st.there ∙ ap place rip in
+      let f : step dec s ≡ stopped (end.Illegal s.cpu.rip) s = step_is dec xm a x n old s st.old_runs rip st.old_code ∙ halt_is x n s is in
+      let e : step dec t ≡ stopped (end.Illegal t.cpu.rip) t = step_is dec wm (place a) x p new t st.new_runs there st.new_code ∙ halt_is x p t is in
       let Q : Machine → Type 0 = λ u. Follows dec edges lay place bound a u t in
       let in_code : IsInside lay.code t.cpu.rip = subst (IsInside lay.code) (sym there) inside in
       let same : Same lay.added (stopped (end.Illegal s.cpu.rip) s) (stopped (end.Illegal t.cpu.rip) t) = record { regs = st.same.regs; flags = st.same.flags; world = st.same.world; mem = st.same.mem } in
@@ -198,15 +238,15 @@ module _ (dec : Decoder) (edges : Edges) (lay : Layout) (place bound : ℕ → �
       goes_now a s1 t st.old_runs (weaker dec lay.added s1 t 2 3 1 3 there (omega arith) (omega arith) all)
 
   -- a system call is made as it is, and RCX set to the old next address
-  syscall_follows : (a n p q : ℕ) (s t : Machine) (old : InsnAt dec xm a insn.Syscall n) → n < 2 ^ 32 → InsnAt dec wm (place a) insn.Syscall p → InsnAt dec wm p (mov_number 1 n) q → Onto dec wm q (To a n)
-      → InsnClear lay.added (decoded.Insn insn.Syscall old.len) s → s.cpu.rip ≡ a → Stand lay place xm wm s t → Follows dec edges lay place bound a (step dec s) t
+  syscall_follows : (x : Insn) (a n p q : ℕ) (s t : Machine) → way_of x ≡ Calls → InsnAt dec xm a x n → n < 2 ^ 32 → InsnAt dec wm (place a) x p → InsnAt dec wm p (mov_number 1 n) q → Onto dec wm q (To a n)
+      → WayClear lay.added Calls x s → s.cpu.rip ≡ a → Stand lay place xm wm s t → Follows dec edges lay place bound a (step dec s) t
   unfolding answer
-  syscall_follows a n p q s t old low new mov ahead clear rip st =
+  syscall_follows x a n p q s t is old low new mov ahead clear rip st =
       let there : t.cpu.rip ≡ place a = st.there ∙ ap place rip in
       let c = answer s.cpu.regs s.mem s.world in
       let d = answer t.cpu.regs t.mem t.world in
-      let f : step dec s ≡ after_call c n s = step_is dec xm a insn.Syscall n old s st.old_runs rip st.old_code in
-      let e : step dec t ≡ after_call d p t = step_is dec wm (place a) insn.Syscall p new t st.new_runs there st.new_code in
+      let f : step dec s ≡ after_call c n s = step_is dec xm a x n old s st.old_runs rip st.old_code ∙ ap (λ w. perform_by w x n s) is in
+      let e : step dec t ≡ after_call d p t = step_is dec wm (place a) x p new t st.new_runs there st.new_code ∙ ap (λ w. perform_by w x p t) is in
       let one = call_alike lay.added s.mem t.mem s.world (call_in s.cpu.regs) (rdi s.cpu.regs) (rsi s.cpu.regs) (rdx s.cpu.regs) clear st.same.mem in
       let P : List ℕ → Type 0 = λ r. CalledAlike lay.added c (answer r t.mem s.world) in
       let W : World → Type 0 = λ w. CalledAlike lay.added c (answer t.cpu.regs t.mem w) in
@@ -216,11 +256,11 @@ module _ (dec : Decoder) (edges : Edges) (lay : Layout) (place bound : ℕ → �
 
   -- each fragment follows its instruction
   pub fragment_follows : (a n : ℕ) (x : Insn) (s t : Machine) → InsnAt dec xm a x n → FragmentAt dec edges lay place wm a n x → s.cpu.rip ≡ a → Stand lay place xm wm s t → StepClear lay.added dec s → Follows dec edges lay place bound a (step dec s) t
-  unfolding carry read_words
-  fragment_follows a n (insn.Mov w (Reg (R r)) (Imm v)) s t old f rip st clear =
-      let x = insn.Mov w (Reg (R r)) (Imm v) in
-      let k = insn_clear x a n s old rip st.old_runs st.old_code clear in
-      plain_follows x a n f.0 s t old f.1 f.2 (λ next u. refl) (λ i k regs flags. refl) refl k rip st
-  fragment_follows a n (insn.Jmp b) s t old f rip st clear = jmp_follows a b n f.0 s t old f.1 rip st
-  fragment_follows a n insn.Syscall s t old f rip st clear = syscall_follows a n f.0 f.1 s t old f.2 f.3 f.4 f.5 (insn_clear insn.Syscall a n s old rip st.old_runs st.old_code clear) rip st
-  fragment_follows a n insn.Ud2 s t old f rip st clear = ud2_follows a n f.0 s t old f.1 f.2 rip st
+  fragment_follows a n x s t old fragment rip st clear = go (way_of x) refl fragment
+    where
+      go : (w : Way) → way_of x ≡ w → FragmentBy w dec edges lay place wm a n x → Follows dec edges lay place bound a (step dec s) t
+      go Onward is f = plain_follows x a n f.0 s t is old f.1 f.2 (insn_clear x Onward a n s is old rip st.old_runs st.old_code clear) rip st
+      go (Jumps b) is f = jump_follows x a b n f.0 s t is old f.1 rip st
+      go (Branches c b) is f = branch_follows x c a b n f.0 s t is old f.1 f.2 rip st
+      go Calls is f = syscall_follows x a n f.0 f.1 s t is old f.2 f.3 f.4 f.5 (insn_clear x Calls a n s is old rip st.old_runs st.old_code clear) rip st
+      go Halts is f = halt_follows x a n f.0 s t is old f.1 f.2 rip st

@@ -3,7 +3,6 @@ use Rattle.std.proofs.Common.{◌≡◌, ℕ, ◌+◌, ◌-◌, ◌*◌, ◌^◌
 use Rattle.std.specs.List.{AllByRecursion}
 use Rattle.rz_machine.specs.declared.insn.Insn.{Insn}
 use Rattle.rz_machine.specs.declared.insn.Insn.TheVariants as insn
-use Rattle.rz_machine.specs.declared.decode.Decoded.TheVariants as decoded
 use Rattle.rz_machine.specs.declared.items.Item.{Item}
 use Rattle.rz_machine.specs.declared.items.Label.{Label}
 use Rattle.rz_machine.specs.declared.items.Label.TheVariants as label
@@ -12,11 +11,9 @@ use Rattle.rz_machine.specs.declared.machine.Machine.{Machine}
 use Rattle.rz_machine.specs.declared.sys.Input.{Input}
 use Rattle.rz_machine.specs.declared.trace.Record.{Record}
 use Rattle.rz_machine.specs.Memory.{Regions, IsOutside, SameCell, Alike, cell_at, wrap}
-use Rattle.rz_machine.specs.Insn.{IsNamed}
 use Rattle.rz_machine.specs.State.{step}
 use Rattle.rz_machine.specs.Touches.{StepClear}
 use Rattle.rz_machine.specs.Start.{start, heap_region, stack_region, first_regs, first_rsp}
-use Rattle.rz_machine.specs.Nodes.{spelled_at}
 use Rattle.rz_machine.specs.First.{decode_first}
 use Rattle.rz_machine.specs.Elf.{Image}
 use Rattle.rz_machine.specs.Added.{Added, Layout, added, layout_of, all_stubs}
@@ -31,7 +28,7 @@ use Rattle.rz_machine.proofs.CodeLaws.{HasCode}
 use Rattle.rz_machine.proofs.RegLaws.{AreRegs, set_regs}
 use Rattle.rz_machine.proofs.Runs.{Follows, Stand, keeps, paced}
 use Rattle.rz_machine.proofs.Placed.{BytesAt, InsnAt, insn_of_spelling, AllSpelled, items_stand}
-use Rattle.rz_machine.proofs.Comes.{step_is, ud2_is}
+use Rattle.rz_machine.proofs.Comes.{step_is, halt_is}
 use Rattle.rz_machine.proofs.Fragment.{FragmentAt, fragment_follows}
 use Rattle.rz_machine.proofs.Trimmed.{spelled_trimmed, spelled_items_of, length-trimmed, length-items_of, fragment_stands}
 use Rattle.rz_machine.proofs.Emitted.{items, Found, found}
@@ -136,7 +133,7 @@ module _ (x : Image) (kept : Record) (parts : Parts) (entry : ℕ) (can : IsRewr
       let same : items decode_first x.loads kept.edges b f.following ≡ its = ap (λ d. trimmed f.following (items_for kept.edges b d)) s.spelled in
       let bytes : BytesAt new.mem (place b) (items_bytes at (place b) its) = subst (λ l. BytesAt new.mem (place b) (items_bytes at (place b) l)) same f.bytes in
       let top : place b + 512 ≤ 0x70000000 = below (place b) a.stubs (length kept.nodes) a.stop (place_below decode_first x kept room b) (stubs_room decode_first x kept room) (stop_low decode_first x kept room plain) in
-      let few : items_len its ≤ 12 = at_most (items_len its) (items_len whole) (length-trimmed f.following whole) (length-items_of kept.edges b n y) in
+      let few : items_len its ≤ 32 = at_most (items_len its) (items_len whole) (length-trimmed f.following whole) (length-items_of kept.edges b n y) in
       let spelled : AllSpelled at (place b) whole = spelled_items_of at (label_low decode_first x kept room plain) kept.edges b n _ b y s.spells (place b) (near (place b) top) next in
       let all : AllSpelled at (place b) its = spelled_trimmed at f.following (place b) whole spelled in
       let stand = items_stand new.mem at (place b) its bytes all (far (place b) (items_len its) top few) in
@@ -149,13 +146,13 @@ module _ (x : Image) (kept : Record) (parts : Parts) (entry : ℕ) (can : IsRewr
       below : (p stubs n stop : ℕ) → p + 512 ≤ stubs → stubs + 24 * n ≤ stop → stop ≤ 0x70000000 → p + 512 ≤ 0x70000000
       below p stubs n stop h k l = omega arith
 
-      at_most : (u v : ℕ) → u ≤ v → v ≤ 12 → u ≤ 12
+      at_most : (u v : ℕ) → u ≤ v → v ≤ 32 → u ≤ 32
       at_most u v h k = omega arith
 
-      near : (p : ℕ) → p + 512 ≤ 0x70000000 → p + 12 < 2 ^ 31
+      near : (p : ℕ) → p + 512 ≤ 0x70000000 → p + 32 < 2 ^ 31
       near p h = omega arith
 
-      far : (p l : ℕ) → p + 512 ≤ 0x70000000 → l ≤ 12 → p + l < 2 ^ 64
+      far : (p l : ℕ) → p + 512 ≤ 0x70000000 → l ≤ 32 → p + l < 2 ^ 64
       far p l h k = omega arith
 
   -- and follows it
@@ -175,7 +172,7 @@ module _ (x : Image) (kept : Record) (parts : Parts) (entry : ℕ) (can : IsRewr
       let bytes : BytesAt new.mem a.stubs (all_stubs kept.nodes ++ fill) = subst (BytesAt new.mem a.stubs) are.parts_added.stubs stub_bytes in
       let low : p + 2 < 2 ^ 64 = far p (label_low decode_first x kept room plain (label.Stub b)) in
       let stop : InsnAt decode_first new.mem p insn.Ud2 (p + 2) = insn_of_spelling new.mem p insn.Ud2 (stub_found new.mem a.stubs b kept.nodes fill node bytes) tt low in
-      ap (λ u. u.end) (step_is decode_first new.mem p insn.Ud2 (p + 2) stop t runs there code ∙ ud2_is (p + 2) t)
+      ap (λ u. u.end) (step_is decode_first new.mem p insn.Ud2 (p + 2) stop t runs there code ∙ halt_is insn.Ud2 (p + 2) t refl)
     where
       far : (p : ℕ) → p < 2 ^ 31 → p + 2 < 2 ^ 64
       far p h = omega arith
@@ -194,14 +191,10 @@ module _ (x : Image) (kept : Record) (parts : Parts) (entry : ℕ) (can : IsRewr
         perms = record { at = λ b i. record { read = refl; write = refl; execute = refl } };
       }
 
-  -- a kept node's instruction is fit for the machine
-  named : (b : ℕ) → IsKept b → (y : Insn) (len : ℕ) → spelled_at decode_first x.loads b ≡ decoded.Insn y len → IsNamed y
-  named b node y len e = (stands x plain b y len e).named
-
   -- the new file's run keeps the old one's
   pub keeps_written : KeepsRun decode_first kept.edges (layout_of decode_first x kept) (start x input) (start (new_image x parts entry) input)
-  keeps_written = keeps decode_first kept.edges lay place (λ b. 3) IsKept x.loads new.mem named can.ends each stub_stops old new can.entry standing
+  keeps_written = keeps decode_first kept.edges lay place (λ b. 3) IsKept x.loads new.mem can.ends each stub_stops old new can.entry standing
 
   -- with one to three steps for each
   pub paced_written : Paced decode_first kept.edges (layout_of decode_first x kept) (λ b. 3) (start x input) (start (new_image x parts entry) input)
-  paced_written = paced decode_first kept.edges lay place (λ b. 3) IsKept x.loads new.mem named can.ends each stub_stops old new can.entry standing
+  paced_written = paced decode_first kept.edges lay place (λ b. 3) IsKept x.loads new.mem can.ends each stub_stops old new can.entry standing

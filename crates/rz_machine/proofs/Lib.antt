@@ -8,6 +8,7 @@ pub mod StepLaws
 pub mod CodeLaws
 pub mod OneForm
 pub mod RegLaws
+pub mod Outcomes
 pub mod Runs
 pub mod Placed
 pub mod Comes

@@ -3,7 +3,7 @@ use Rattle.std.proofs.Common.{◌≡◌, ℕ, zero, suc, ◌+◌, ◌^◌, ◌<�
 use Rattle.byteorder.specs.Endian.{little_bytes, little_number}
 use Rattle.rz_machine.specs.declared.memory.Cell.{Cell}
 use Rattle.rz_machine.specs.Memory.{Regions, Range, IsOutside, IsClear, SameCell, Alike, bytes_at, refused, is_readable, is_writable, wrap}
-use Rattle.rz_machine.specs.declared.flags.Flags.{Flags}
+use Rattle.rz_flags.specs.declared.Flags.{Flags}
 use Rattle.rz_machine.specs.declared.sys.Reply.{Reply}
 use Rattle.rz_machine.specs.declared.sys.Reply.TheVariants.{Full, AtMost, Error}
 use Rattle.rz_machine.specs.declared.sys.World.{World}

@@ -1,5 +1,5 @@
 -- Instructions at places in memory: from bytes that may be executed to what they spell.
-use Rattle.std.proofs.Common.{◌≡◌, ℕ, suc, ◌+◌, ◌-◌, ◌^◌, ◌<◌, ◌≤◌, List, [], ◌∷◌, ◌++◌, length, map, get_or, Some, refl, sym, ap, ap₂, ◌∙◌, subst, arith, mod-eq_of_lt, length-append}
+use Rattle.std.proofs.Common.{◌≡◌, ℕ, suc, ◌+◌, ◌-◌, ◌^◌, ◌<◌, ◌≤◌, List, [], ◌∷◌, ◌++◌, length, map, get_or, None, Some, refl, sym, ap, ap₂, ◌∙◌, subst, arith, mod-eq_of_lt, length-append}
 use Rattle.rz_machine.specs.declared.insn.Insn.{Insn}
 use Rattle.rz_machine.specs.declared.insn.Insn.TheVariants as insn
 use Rattle.rz_machine.specs.declared.decode.Decoded.TheVariants as decoded
@@ -67,8 +67,10 @@ insn_of_bytes dec m p x bs h short low spells =
     record { len = length bs; spelled = ap (λ n. dec (fetch m p n) p) (sym e) ∙ ap (λ l. dec l p) f.1 ∙ spells f.0; ends = mod-eq_of_lt low }
 
 -- a spelling is at most 15 bytes long
-short_spelling : (x : Insn) → spelling_len x ≤ 15
+pub short_spelling : (x : Insn) → spelling_len x ≤ 15
 short_spelling (insn.Mov w dst src) = omega arith
+short_spelling (insn.Arith op w dst src) = omega arith
+short_spelling (insn.Jcc cond to) = omega arith
 short_spelling (insn.Jmp to) = omega arith
 short_spelling insn.Syscall = omega arith
 short_spelling insn.Ud2 = omega arith
@@ -88,7 +90,8 @@ AllSpelled at from (i ∷ rest) = HasSpelling (resolved at i) from × AllSpelled
 -- an item's length is that of its spelling
 pub length-item : (at : Label → ℕ) (i : Item) → spelling_len (resolved at i) ≡ item_len i
 length-item at (item.Whole x) = refl
-length-item at (item.Jump to) = refl
+length-item at (item.Jump None to) = refl
+length-item at (item.Jump (Some cond) to) = refl
 
 -- the items' bytes have the items' length
 pub length-items : (at : Label → ℕ) (from : ℕ) (items : List Item) → length (items_bytes at from items) ≡ items_len items

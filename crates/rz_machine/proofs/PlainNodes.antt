@@ -5,7 +5,6 @@ use Rattle.rz_machine.specs.declared.insn.Insn.{Insn}
 use Rattle.rz_machine.specs.declared.decode.Decoded.{Decoded}
 use Rattle.rz_machine.specs.declared.decode.Decoded.TheVariants as decoded
 use Rattle.rz_machine.specs.Memory.{Regions, cell_at, fetch}
-use Rattle.rz_machine.specs.Insn.{IsNamed}
 use Rattle.rz_machine.specs.Nodes.{spelled_at}
 use Rattle.rz_machine.specs.First.{decode_first, Spells}
 use Rattle.rz_machine.specs.TableLaws.{NamesInsn}
@@ -22,7 +21,6 @@ module _ (x : Image) (plain : IsPlainImage x) where
   -- what stands at a node of a plain image
   pub record Stands (b : ℕ) (y : Insn) (len : ℕ) : Type 0 where
     pub spelled : spelled_at decode_first x.loads b ≡ decoded.Insn y len
-    pub named : IsNamed y
     pub spells : Spells (take len (fetch x.loads b 15)) b y
     pub low : b + len ≤ 0x70000000
     pub first : (cell_at x.loads b).execute ≡ true
@@ -36,7 +34,6 @@ module _ (x : Image) (plain : IsPlainImage x) where
       let fit = subst P e (names_insns bs b bytes) in
       record {
         spelled = e;
-        named = fit.0;
         spells = spelled_where_decoded bs b bytes y len e;
         low = fetch_low x.loads 0x70000000 (λ c. (plain_cell x.loads plain c).1) b 15 len (omega (arith, fit.1)) fit.3;
         first = fetch_first x.loads b 15 (omega (arith, fit.1, fit.3));

@@ -1,10 +1,10 @@
 -- Registers stay sixteen words below 2^64.
-use Rattle.std.proofs.Common.{◌≡◌, ℕ, zero, suc, ◌+◌, ◌^◌, ◌<◌, ◌≤◌, true, false, List, [], ◌∷◌, length, get_or, set, Option, Some, None, refl, ◌∙◌, arith, length-set}
+use Rattle.std.proofs.Common.{◌≡◌, ℕ, zero, suc, ◌+◌, ◌^◌, ◌<◌, ◌≤◌, Bool, true, false, if◌then◌else◌, List, [], ◌∷◌, length, get_or, set, Option, Some, None, ◌∙◌, arith, length-set}
 use Rattle.std.specs.List.{AllByRecursion}
 use Rattle.rz_num.specs.declared.width.Width.{Width}
 use Rattle.rz_num.specs.declared.width.Width.TheVariants.{W8, W16, W32, W64}
-use Rattle.rz_num.specs.Width.{size}
-use Rattle.rz_machine.specs.declared.flags.Flags.{Flags}
+use Rattle.rz_flags.specs.declared.Flags.{Flags}
+use Rattle.rz_flags.specs.Word.{flags_word, bit_of}
 use Rattle.rz_machine.specs.declared.insn.Reg.TheVariants.{R}
 use Rattle.rz_machine.specs.declared.insn.Place.TheVariants as place
 use Rattle.rz_machine.specs.declared.insn.Operand.TheVariants.{Imm}
@@ -18,10 +18,10 @@ use Rattle.rz_machine.specs.declared.sys.Reply.{Reply}
 use Rattle.rz_machine.specs.declared.sys.Reply.TheVariants.{Full, AtMost, Error}
 use Rattle.rz_machine.specs.declared.sys.World.{World}
 use Rattle.rz_machine.specs.Memory.{Regions, wrap}
-use Rattle.rz_machine.specs.Insn.{Decoder, IsNamed}
-use Rattle.rz_machine.specs.Effect.{carry, read_words, written}
+use Rattle.rz_machine.specs.Insn.{Decoder}
+use Rattle.rz_machine.specs.Effect.{carry, read_words, written, put_reg, is_written}
 use Rattle.rz_machine.specs.Answer.{Called, Call, Write, NoFile, Exit, Other, answer, answer_as, call_in, cut_count, write_allowed, write_reply, next_reply}
-use Rattle.rz_machine.specs.State.{step, act, perform, running, after_exit, flags_word, bit_of, decoded_at}
+use Rattle.rz_machine.specs.State.{step, act, perform, running, after_exit, decoded_at}
 
 -- a word of 64 bits
 abbrev pub IsWord : ℕ → Type 0
@@ -48,12 +48,12 @@ get_word (x ∷ xs) (suc i) h = get_word xs i h.1
 pub set_regs : (regs : List ℕ) (i v : ℕ) → AreRegs regs → IsWord v → AreRegs (set regs i v)
 set_regs regs i v h w = record { sixteen = length-set regs i v ∙ h.sixteen; words = set_words regs i v h.words w }
 
--- a value of a width put into a word
-written_word : (w : Width) (old v : ℕ) → IsWord old → v < size w → IsWord (written w old v)
-written_word W8 old v h k = omega arith
-written_word W16 old v h k = omega arith
-written_word W32 old v h k = omega arith
-written_word W64 old v h k = omega arith
+-- a value put into a word at a width
+written_word : (w : Width) (old v : ℕ) → IsWord old → IsWord (written w old v)
+written_word W8 old v h = omega arith
+written_word W16 old v h = omega arith
+written_word W32 old v h = omega arith
+written_word W64 old v h = omega arith
 
 -- the flags word is one
 flags_fit : (f : Flags) → IsWord (flags_word f)
@@ -85,26 +85,35 @@ answer_word regs m w = go (call_in regs) _ _ _
     go Exit a b n = omega arith
     go Other a b n = omega arith
 
--- one step of an instruction that is fit for the machine
-pub step_regs : (dec : Decoder) (s : Machine) → ((x : Insn) (len : ℕ) → decoded_at dec s ≡ decoded.Insn x len → IsNamed x) → AreRegs s.cpu.regs → AreRegs (step dec s).cpu.regs
+-- one step
+pub step_regs : (dec : Decoder) (s : Machine) → AreRegs s.cpu.regs → AreRegs (step dec s).cpu.regs
 unfolding step carry read_words
-step_regs dec s named h = run s.end
+step_regs dec s h = run s.end
   where
     call : (o : Option ℕ) (c : Called) (next : ℕ) → IsWord c.answer → IsWord next → AreRegs (after_exit o c next s).cpu.regs
     call (Some status) c next a n = h
     call None c next a n = set_regs _ 11 _ (set_regs _ 1 _ (set_regs s.cpu.regs 0 _ h a) n) (flags_fit s.cpu.flags)
 
-    does : (x : Insn) (next : ℕ) → IsNamed x → IsWord next → AreRegs (perform x next s).cpu.regs
-    does (insn.Mov w (place.Reg (R dst)) (Imm imm)) next x n = set_regs s.cpu.regs dst _ h (written_word w _ imm (get_word s.cpu.regs dst h.words) x.1)
-    does (insn.Jmp target) next x n = h
-    does insn.Ud2 next x n = h
-    does insn.Syscall next x n = call _ (answer s.cpu.regs s.mem s.world) next (answer_word s.cpu.regs s.mem s.world) n
+    put : (w : Width) (dst v : ℕ) → AreRegs (put_reg w s.cpu.regs dst v)
+    put w dst v = set_regs s.cpu.regs dst _ h (written_word w _ v (get_word s.cpu.regs dst h.words))
 
-    acts : (d : Decoded) → ((x : Insn) (len : ℕ) → d ≡ decoded.Insn x len → IsNamed x) → AreRegs (act d s).cpu.regs
-    acts (decoded.Insn x len) fit = does x (wrap (s.cpu.rip + len)) (fit x len refl) (omega arith)
-    acts decoded.Short fit = h
-    acts decoded.Unknown fit = h
+    kept : (b : Bool) (regs : List ℕ) → AreRegs regs → AreRegs (if b then regs else s.cpu.regs)
+    kept true regs k = k
+    kept false regs k = h
+
+    does : (x : Insn) (next : ℕ) → IsWord next → AreRegs (perform x next s).cpu.regs
+    does (insn.Arith op w (place.Reg (R dst)) (Imm imm)) next n = kept (is_written op) _ (put w dst _)
+    does (insn.Mov w (place.Reg (R dst)) (Imm imm)) next n = put w dst imm
+    does (insn.Jcc cond target) next n = h
+    does (insn.Jmp target) next n = h
+    does insn.Ud2 next n = h
+    does insn.Syscall next n = call _ (answer s.cpu.regs s.mem s.world) next (answer_word s.cpu.regs s.mem s.world) n
+
+    acts : (d : Decoded) → AreRegs (act d s).cpu.regs
+    acts (decoded.Insn x len) = does x (wrap (s.cpu.rip + len)) (omega arith)
+    acts decoded.Short = h
+    acts decoded.Unknown = h
 
     run : (o : Option End) → AreRegs (running o dec s).cpu.regs
-    run None = acts (decoded_at dec s) named
+    run None = acts (decoded_at dec s)
     run (Some why) = h

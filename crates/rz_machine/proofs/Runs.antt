@@ -5,16 +5,13 @@ use Rattle.rz_machine.specs.declared.machine.End.{End}
 use Rattle.rz_machine.specs.declared.machine.End.TheVariants as end
 use Rattle.rz_machine.specs.declared.machine.Machine.{Machine}
 use Rattle.rz_machine.specs.Memory.{Regions, Range, PermsStand}
-use Rattle.rz_machine.specs.declared.insn.Insn.{Insn}
-use Rattle.rz_machine.specs.declared.decode.Decoded.TheVariants as decoded
-use Rattle.rz_machine.specs.Insn.{Decoder, IsNamed}
-use Rattle.rz_machine.specs.Nodes.{spelled_at}
+use Rattle.rz_machine.specs.Insn.{Decoder}
 use Rattle.rz_machine.specs.State.{step, after, running}
 use Rattle.rz_machine.specs.Touches.{StepClear, RunClear}
 use Rattle.rz_machine.specs.Added.{Layout}
 use Rattle.rz_machine.specs.Keeps.{Same, Edges, has_edge, Leaves, IsCut, NoCut, AlikeEnds, KeepsRun}
 use Rattle.rz_machine.specs.Pace.{IsMoment, Paced}
-use Rattle.rz_machine.proofs.CodeLaws.{HasCode, fetch_same, step_code, after_code, after_perms}
+use Rattle.rz_machine.proofs.CodeLaws.{HasCode, step_code, after_code, after_perms}
 use Rattle.rz_machine.proofs.RegLaws.{AreRegs, step_regs}
 
 -- where the new run goes where the old one goes from a to b
@@ -79,7 +76,6 @@ moment_most dec r bound b low x w (suc n) m h =
     omega (arith, i, j, e, h.3)
 
 module _ (dec : Decoder) (edges : Edges) (lay : Layout) (place bound : ℕ → ℕ) (IsNode : ℕ → Type 0) (xm wm : Regions)
-    (named : (a : ℕ) → IsNode a → (y : Insn) (len : ℕ) → spelled_at dec xm a ≡ decoded.Insn y len → IsNamed y)
     (ends_are_nodes : (a b : ℕ) → has_edge edges a b ≡ true → IsNode b)
     (each : (s t : Machine) → IsNode s.cpu.rip → Stand lay place xm wm s t → StepClear lay.added dec s → Follows dec edges lay place bound s.cpu.rip (step dec s) t)
     (stub_stops : (t : Machine) (a : ℕ) → IsNode a → t.end ≡ None → HasCode wm t.mem → t.cpu.rip ≡ lay.stub a → (step dec t).end ≡ Some (end.Illegal t.cpu.rip))
@@ -113,7 +109,7 @@ module _ (dec : Decoder) (edges : Edges) (lay : Layout) (place bound : ℕ → �
             new_runs = f.3;
             there = there;
             same = f.5;
-            regs = step_regs dec s (λ y len e. named s.cpu.rip a.node y len (ap (λ bs. dec bs s.cpu.rip) (fetch_same xm s.mem s.cpu.rip 15 a.stand.old_code.same) ∙ e)) a.stand.regs;
+            regs = step_regs dec s a.stand.regs;
             old_code = step_code xm dec s a.stand.old_code;
             new_code = after_code wm dec f.0 t a.stand.new_code;
             perms = after_perms lay.added wm dec f.0 t a.stand.perms;

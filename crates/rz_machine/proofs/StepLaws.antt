@@ -1,9 +1,8 @@
 -- What a step does to memory: nothing but puts of bytes.
 use Rattle.std.proofs.Common.{ℕ, zero, suc, ◌+◌, List, [], ◌∷◌, Option, Some, None, Result, Ok, Err}
 use Rattle.byteorder.specs.Endian.{little_bytes}
-use Rattle.rz_machine.specs.declared.flags.Flags.{Flags}
+use Rattle.rz_flags.specs.declared.Flags.{Flags}
 use Rattle.rz_machine.specs.declared.insn.Insn.{Insn}
-use Rattle.rz_machine.specs.declared.insn.Insn.TheVariants as insn
 use Rattle.rz_machine.specs.declared.decode.Decoded.{Decoded}
 use Rattle.rz_machine.specs.declared.decode.Decoded.TheVariants as decoded
 use Rattle.rz_machine.specs.declared.machine.End.{End}
@@ -12,10 +11,10 @@ use Rattle.rz_machine.specs.declared.sys.Reply.{Reply}
 use Rattle.rz_machine.specs.declared.sys.Reply.TheVariants.{Full, AtMost, Error}
 use Rattle.rz_machine.specs.declared.sys.World.{World}
 use Rattle.rz_machine.specs.Memory.{Regions, put_byte, put_bytes, wrap, refused, is_writable}
-use Rattle.rz_machine.specs.Insn.{Decoder}
-use Rattle.rz_machine.specs.Effect.{Access, Effect, Outcome, Goes, Stops, Done, Went, Stopped, carry, carry_out, after_reads, stored, read_words, effect}
+use Rattle.rz_machine.specs.Insn.{Decoder, Way, Onward, Jumps, Branches, Calls, Halts, way_of}
+use Rattle.rz_machine.specs.Effect.{Access, Effect, Outcome, Goes, Stops, Done, Went, Stopped, carry, carry_out, after_reads, stored, read_words, effect_by}
 use Rattle.rz_machine.specs.Answer.{Called, Call, Write, NoFile, Exit, Other, answer, answer_as, call_in, write_allowed, write_reply, next_reply}
-use Rattle.rz_machine.specs.State.{step, after, act, perform, perform_effect, running, after_done, after_exit}
+use Rattle.rz_machine.specs.State.{step, after, act, perform_by, perform_effect, running, after_done, after_exit}
 
 -- a property of memory that stands under a put of one byte
 abbrev pub StandsPut : (Regions → Type 0) → Type 0
@@ -84,17 +83,18 @@ module _ (P : Regions → Type 0) (stands : StandsPut P) where
       call (Some status) c next k = h
       call None c next k = k
 
-      effects : (x : Insn) (next : ℕ) → P (perform_effect x next s).mem
-      effects x next = done _ next (carry_stands s.mem (effect x s.cpu.rip s.cpu.regs s.cpu.flags) h)
+      effects : (w : Way) (x : Insn) (next : ℕ) → P (perform_effect w x next s).mem
+      effects w x next = done _ next (carry_stands s.mem (effect_by w x s.cpu.rip s.cpu.regs s.cpu.flags) h)
 
-      does : (x : Insn) (next : ℕ) → P (perform x next s).mem
-      does (insn.Mov w dst src) next = effects (insn.Mov w dst src) next
-      does (insn.Jmp target) next = effects (insn.Jmp target) next
-      does insn.Ud2 next = effects insn.Ud2 next
-      does insn.Syscall next = call _ _ next (answer_stands s.mem s.cpu.regs s.world h)
+      does : (w : Way) (x : Insn) (next : ℕ) → P (perform_by w x next s).mem
+      does Calls x next = call _ _ next (answer_stands s.mem s.cpu.regs s.world h)
+      does Onward x next = effects Onward x next
+      does (Jumps target) x next = effects (Jumps target) x next
+      does (Branches cond target) x next = effects (Branches cond target) x next
+      does Halts x next = effects Halts x next
 
       acts : (d : Decoded) → P (act d s).mem
-      acts (decoded.Insn x len) = does x _
+      acts (decoded.Insn x len) = does (way_of x) x _
       acts decoded.Short = h
       acts decoded.Unknown = h
 

@@ -1,67 +1,46 @@
 -- What a run begins: its instructions stand in the file, and its edges are what the instructions lead to.
-use Rattle.std.proofs.Common.{◌≡◌, ℕ, zero, suc, ◌+◌, ◌⊎◌, inl, inr, ⊎_elim, Bool, true, false, ◌&&◌, ◌||◌, ◌==◌, List, [], ◌∷◌, ◌++◌, Option, Some, None, Result, Ok, Err, refl, sym, ap, ◌∙◌, subst, eqb-true, eq-eqb}
+use Rattle.std.proofs.Common.{◌≡◌, ℕ, zero, suc, ◌+◌, ◌⊎◌, inl, inr, ⊎_elim, Bool, true, false, if◌then◌else◌, ◌&&◌, ◌||◌, ◌==◌, List, [], ◌∷◌, ◌++◌, Option, Some, None, refl, sym, ap, ◌∙◌, subst, eqb-true, eq-eqb}
 use Rattle.std.proofs.lemmas.Bool.{and_parts, or_left, or_right}
-use Rattle.rz_machine.specs.declared.flags.Flags.{Flags}
-use Rattle.rz_machine.specs.declared.insn.Place.TheVariants as place
-use Rattle.rz_machine.specs.declared.insn.Operand.TheVariants.{Imm}
-use Rattle.rz_machine.specs.declared.insn.Reg.TheVariants.{R}
+use Rattle.rz_flags.specs.declared.Flags.{Flags}
+use Rattle.rz_flags.specs.Cond.{holds}
 use Rattle.rz_machine.specs.declared.insn.Insn.{Insn}
-use Rattle.rz_machine.specs.declared.insn.Insn.TheVariants as insn
 use Rattle.rz_machine.specs.declared.decode.Decoded.{Decoded}
 use Rattle.rz_machine.specs.declared.decode.Decoded.TheVariants as decoded
 use Rattle.rz_machine.specs.declared.machine.End.{End}
 use Rattle.rz_machine.specs.declared.machine.End.TheVariants as end
 use Rattle.rz_machine.specs.declared.machine.Machine.{Machine}
-use Rattle.rz_machine.specs.Memory.{Regions, wrap, refused, is_writable}
-use Rattle.rz_machine.specs.Insn.{Decoder, kind_of, is_site, direct}
-use Rattle.rz_machine.specs.Effect.{Access, Effect, Outcome, Goes, Stops, Done, Went, Stopped, effect, carry, carry_out, after_reads, stored, read_words}
-use Rattle.rz_machine.specs.Answer.{Called, answer}
-use Rattle.rz_machine.specs.State.{step, after, act, perform, perform_effect, running, after_done, after_exit, decoded_at}
+use Rattle.rz_machine.specs.Memory.{Regions, wrap}
+use Rattle.rz_machine.specs.Insn.{Decoder, Way, Onward, Jumps, Branches, Calls, Halts, way_of, kind_in, target_in, direct_by, direct}
+use Rattle.rz_machine.specs.Effect.{Done, Went, Stopped, plain_effect, plainly, effect_by, carry, read_words}
+use Rattle.rz_machine.specs.Answer.{Called}
+use Rattle.rz_machine.specs.State.{step, after, act, perform, perform_by, perform_effect, running, after_done, after_exit, onward, decoded_at}
 use Rattle.rz_machine.specs.Begun.{begun_by, begun_at, begun, neighbours}
 use Rattle.rz_machine.specs.Nodes.{IsNode, spelled_at, is_site_at, direct_at}
 use Rattle.rz_machine.specs.Keeps.{has_edge}
 use Rattle.rz_machine.specs.Rewritable.{has_node}
 use Rattle.rz_machine.specs.LeftCode.{left_at}
+use Rattle.rz_machine.proofs.Outcomes.{OutcomeHas, DoneHas, carry_has}
 use Rattle.rz_machine.proofs.CodeLaws.{HasCode, fetch_same, step_code}
 
--- an instruction's own ends
+-- the ends of an instruction are not Fetch and Unknown
+abbrev Stays : End → Type 0
+Stays why = left_at (Some why) ≡ None
 
-abbrev OutcomeStays : Outcome → Type 0
-OutcomeStays (Goes regs flags word to) = Unit {0}
-OutcomeStays (Stops why) = left_at (Some why) ≡ None
+abbrev Anywhere : Option ℕ → Type 0
+Anywhere to = Unit {0}
 
-effect_stays : (x : Insn) (here : ℕ) (regs : List ℕ) (flags : Flags) (words : List ℕ) → OutcomeStays ((effect x here regs flags).gives words)
-effect_stays (insn.Mov w (place.Reg (R dst)) (Imm imm)) here regs flags words = tt
-effect_stays (insn.Jmp target) here regs flags words = tt
-effect_stays insn.Syscall here regs flags words = tt
-effect_stays insn.Ud2 here regs flags words = refl
-
-abbrev DoneStays : Done → Type 0
-DoneStays (Went regs flags mem to) = Unit {0}
-DoneStays (Stopped why) = left_at (Some why) ≡ None
-
-carry_stays : (e : Effect) (m : Regions) → ((words : List ℕ) → OutcomeStays (e.gives words)) → DoneStays (carry e m)
-unfolding carry
-carry_stays e m h = go (read_words m e.reads)
-  where
-    store : (o : Option ℕ) (a : Access) (regs : List ℕ) (flags : Flags) (word : ℕ) (to : Option ℕ) → DoneStays (stored o m a regs flags word to)
-    store (Some bad) a regs flags word to = refl
-    store None a regs flags word to = tt
-
-    out : (w : Option Access) (o : Outcome) → OutcomeStays o → DoneStays (carry_out m w o)
-    out w (Stops why) k = k
-    out None (Goes regs flags word to) k = tt
-    out (Some a) (Goes regs flags word to) k = store (refused is_writable m a.at a.size) a regs flags word to
-
-    go : (r : Result (List ℕ) ℕ) → DoneStays (after_reads e m r)
-    go (Err bad) = refl
-    go (Ok words) = out e.write (e.gives words) (h words)
+effect_stays : (w : Way) (x : Insn) (here : ℕ) (regs : List ℕ) (flags : Flags) (words : List ℕ) → OutcomeHas Anywhere Stays (λ a. refl) ((effect_by w x here regs flags).gives words)
+effect_stays Onward x here regs flags words = tt
+effect_stays (Jumps target) x here regs flags words = tt
+effect_stays (Branches cond target) x here regs flags words = tt
+effect_stays Calls x here regs flags words = tt
+effect_stays Halts x here regs flags words = refl
 
 -- an instruction never ends a run with Fetch or Unknown
 pub perform_stays : (x : Insn) (next : ℕ) (s : Machine) → s.end ≡ None → left_at (perform x next s).end ≡ None
-perform_stays x next s h = go x
+perform_stays x next s h = go (way_of x)
   where
-    done : (d : Done) → DoneStays d → left_at (after_done d next s).end ≡ None
+    done : (d : Done) → DoneHas Anywhere Stays (λ a. refl) d → left_at (after_done d next s).end ≡ None
     done (Stopped why) k = k
     done (Went regs flags mem to) k = ap left_at h
 
@@ -69,14 +48,17 @@ perform_stays x next s h = go x
     call (Some status) c = refl
     call None c = ap left_at h
 
-    effects : (x : Insn) → left_at (perform_effect x next s).end ≡ None
-    effects x = done _ (carry_stays (effect x s.cpu.rip s.cpu.regs s.cpu.flags) s.mem (effect_stays x s.cpu.rip s.cpu.regs s.cpu.flags))
+    effects : (w : Way) → left_at (perform_effect w x next s).end ≡ None
+    effects w =
+        let e = effect_by w x s.cpu.rip s.cpu.regs s.cpu.flags in
+        done _ (carry_has Anywhere Stays (λ a. refl) e s.mem (effect_stays w x s.cpu.rip s.cpu.regs s.cpu.flags))
 
-    go : (x : Insn) → left_at (perform x next s).end ≡ None
-    go (insn.Mov w dst src) = effects (insn.Mov w dst src)
-    go (insn.Jmp target) = effects (insn.Jmp target)
-    go insn.Ud2 = effects insn.Ud2
-    go insn.Syscall = call _ _
+    go : (w : Way) → left_at (perform_by w x next s).end ≡ None
+    go Calls = call _ _
+    go Onward = effects Onward
+    go (Jumps target) = effects (Jumps target)
+    go (Branches cond target) = effects (Branches cond target)
+    go Halts = effects Halts
 
 -- a state that has ended stays, and begins nothing
 
@@ -208,17 +190,38 @@ neighbours_in (x ∷ y ∷ rest) a b h =
     (λ e. let p = neighbours_in (y ∷ rest) a b e in (or_right (x == a) _ p.0, or_right (x == b) _ p.1))
     (or_true (x == a && y == b) (has_edge (neighbours (y ∷ rest)) a b) h)
 
--- an instruction with static successors leads to one of them
-leads_direct : (x : Insn) (next : ℕ) (s : Machine) → is_site (kind_of x) ≡ false → (perform x next s).end ≡ None → has_node (direct x next) (perform x next s).cpu.rip ≡ true
+-- an instruction that goes on leads to one of its static successors
+leads_direct : (x : Insn) (next : ℕ) (s : Machine) → (perform x next s).end ≡ None → has_node (direct x next) (perform x next s).cpu.rip ≡ true
 unfolding carry read_words
-leads_direct (insn.Mov w (place.Reg (R dst)) (Imm imm)) next s h e = or_left (next == next) false (eq-eqb next next refl)
-leads_direct (insn.Jmp target) next s h e = or_left (target == target) false (eq-eqb target target refl)
-leads_direct insn.Syscall next s h e = go (answer s.cpu.regs s.mem s.world).exit _ e
+leads_direct x next s e = go (way_of x) e
   where
-    go : (o : Option ℕ) (c : Called) → (after_exit o c next s).end ≡ None → has_node (next ∷ []) (after_exit o c next s).cpu.rip ≡ true
-    go (Some status) c e = cc
-    go None c e = or_left (next == next) false (eq-eqb next next refl)
-leads_direct insn.Ud2 next s h e = cc
+    itself : (a : ℕ) (rest : List ℕ) → has_node (a ∷ rest) a ≡ true
+    itself a rest = or_left (a == a) (has_node rest a) (eq-eqb a a refl)
+
+    IsNext : Option ℕ → Type 0
+    IsNext to = to ≡ None
+
+    AnyEnd : End → Type 0
+    AnyEnd why = Unit {0}
+
+    plain : (d : Done) → DoneHas IsNext AnyEnd (λ a. tt) d → (after_done d next s).end ≡ None → has_node (next ∷ []) (after_done d next s).cpu.rip ≡ true
+    plain (Stopped why) h k = cc
+    plain (Went regs flags mem to) h k = subst (λ o. has_node (next ∷ []) (onward o next) ≡ true) (sym h) (itself next [])
+
+    chosen : (b : Bool) (target : ℕ) → has_node (next ∷ target ∷ []) (onward (if b then Some target else None) next) ≡ true
+    chosen true target = or_right (next == target) _ (itself target [])
+    chosen false target = itself next (target ∷ [])
+
+    call : (o : Option ℕ) (c : Called) → (after_exit o c next s).end ≡ None → has_node (next ∷ []) (after_exit o c next s).cpu.rip ≡ true
+    call (Some status) c k = cc
+    call None c k = itself next []
+
+    go : (w : Way) → (perform_by w x next s).end ≡ None → has_node (direct_by (kind_in w) (target_in w) next) (perform_by w x next s).cpu.rip ≡ true
+    go Onward k = plain _ (carry_has IsNext AnyEnd (λ a. tt) (plainly (plain_effect x s.cpu.regs s.cpu.flags)) s.mem (λ words. refl)) k
+    go (Jumps target) k = itself target []
+    go (Branches cond target) k = chosen (holds cond s.cpu.flags) target
+    go Calls k = call _ _ k
+    go Halts k = cc
 
 -- where a node isn't a return or an indirect transfer, an edge that leaves it is to a static successor
 unfoldable pub IsDirect : Decoder → Regions → ℕ → ℕ → Type 0
@@ -232,7 +235,7 @@ step_direct dec m s code b e =
     let stepped : step dec s ≡ perform b.insn (wrap (s.cpu.rip + b.len)) s = step_running dec s b.running ∙ ap (λ d. act d s) b.spelled in
     let P : Decoded → ℕ → Type 0 = λ d to. is_site_at (λ bs at. d) m s.cpu.rip ≡ false → has_node (direct_at (λ bs at. d) m s.cpu.rip) to ≡ true in
     let there : P (decoded.Insn b.insn b.len) (perform b.insn (wrap (s.cpu.rip + b.len)) s).cpu.rip =
-    λ site. leads_direct b.insn (wrap (s.cpu.rip + b.len)) s site (ap (λ t. t.end) (sym stepped) ∙ e) in
+    λ site. leads_direct b.insn (wrap (s.cpu.rip + b.len)) s (ap (λ t. t.end) (sym stepped) ∙ e) in
     subst (λ d. P d (step dec s).cpu.rip) (sym same) (subst (λ t. P (decoded.Insn b.insn b.len) t.cpu.rip) (sym stepped) there)
 
 -- each edge of a run that leaves no site is to a static successor

@@ -7,62 +7,63 @@ use Rattle.rz_machine.specs.declared.items.Label.TheVariants as label
 use Rattle.rz_machine.specs.declared.items.Item.{Item}
 use Rattle.rz_machine.specs.declared.items.Item.TheVariants as item
 use Rattle.rz_machine.specs.Memory.{Regions, IsInside}
-use Rattle.rz_machine.specs.Insn.{Decoder}
-use Rattle.rz_machine.specs.First.{mov_number, Spells, spells_mov, spells_jmp, spells_syscall, spells_ud2}
+use Rattle.rz_machine.specs.Insn.{Decoder, Way, Onward, Jumps, Branches, Calls, Halts, way_of, target_in}
+use Rattle.rz_machine.specs.First.{mov_number, Spells, spelling_len, HasSpelling}
+use Rattle.rz_machine.specs.FirstLaws.{spelled_anywhere}
 use Rattle.rz_machine.specs.Added.{Layout}
 use Rattle.rz_machine.specs.Keeps.{Edges, has_edge}
-use Rattle.rz_machine.specs.Fragments.{to_label, items_of, is_following, trimmed, item_len, items_len, resolved}
+use Rattle.rz_machine.specs.Fragments.{to_label, jump_to, items_by, items_of, is_following, is_needless, trimmed, item_len, items_len, resolved}
 use Rattle.rz_machine.proofs.Runs.{dest}
-use Rattle.rz_machine.proofs.Placed.{InsnAt, InsnsAt, AllSpelled}
-use Rattle.rz_machine.proofs.Comes.{Onto, Falls, Jumps}
-use Rattle.rz_machine.proofs.Fragment.{FragmentAt}
-
--- a list of three items or more is trimmed behind its first
-trimmed-cons : (following : Option ℕ) (i j k : Item) (rest : List Item) → trimmed following (i ∷ j ∷ k ∷ rest) ≡ i ∷ trimmed following (j ∷ k ∷ rest)
-trimmed-cons following i (item.Jump to) k rest = refl
-trimmed-cons following i (item.Whole x) k rest = refl
+use Rattle.rz_machine.proofs.Placed.{InsnAt, InsnsAt, AllSpelled, short_spelling}
+use Rattle.rz_machine.proofs.Comes.{Onto, Falls, ByJump}
+use Rattle.rz_machine.proofs.Fragment.{FragmentBy, FragmentAt}
 
 -- trimmed items are spelled too
 pub spelled_trimmed : (at : Label → ℕ) (following : Option ℕ) (from : ℕ) (items : List Item) → AllSpelled at from items → AllSpelled at from (trimmed following items)
 spelled_trimmed at following from [] h = tt
 spelled_trimmed at following from (i ∷ []) h = h
-spelled_trimmed at following from (i ∷ item.Jump to ∷ []) h = go (is_following following to)
+spelled_trimmed at following from (i ∷ j ∷ []) h = go (is_needless following j)
   where
-    go : (b : Bool) → AllSpelled at from (if b then i ∷ [] else (i ∷ item.Jump to ∷ []))
+    go : (b : Bool) → AllSpelled at from (if b then i ∷ [] else (i ∷ j ∷ []))
     go true = (h.0, tt)
     go false = h
-spelled_trimmed at following from (i ∷ item.Whole x ∷ []) h = h
-spelled_trimmed at following from (i ∷ j ∷ k ∷ rest) h =
-    subst (AllSpelled at from) (sym (trimmed-cons following i j k rest)) (h.0, spelled_trimmed at following (from + item_len i) (j ∷ k ∷ rest) h.1)
+spelled_trimmed at following from (i ∷ j ∷ k ∷ rest) h = (h.0, spelled_trimmed at following (from + item_len i) (j ∷ k ∷ rest) h.1)
 
 -- and no longer
 pub length-trimmed : (following : Option ℕ) (items : List Item) → items_len (trimmed following items) ≤ items_len items
 length-trimmed following [] = omega arith
 length-trimmed following (i ∷ []) = omega arith
-length-trimmed following (i ∷ item.Jump to ∷ []) = go (is_following following to)
+length-trimmed following (i ∷ j ∷ []) = go (is_needless following j)
   where
-    go : (b : Bool) → items_len (if b then i ∷ [] else (i ∷ item.Jump to ∷ [])) ≤ item_len i + (5 + 0)
+    go : (b : Bool) → items_len (if b then i ∷ [] else (i ∷ j ∷ [])) ≤ item_len i + (item_len j + 0)
     go true = omega arith
     go false = omega arith
-length-trimmed following (i ∷ item.Whole x ∷ []) = omega arith
-length-trimmed following (i ∷ j ∷ k ∷ rest) =
-    let e : items_len (trimmed following (i ∷ j ∷ k ∷ rest)) ≡ item_len i + items_len (trimmed following (j ∷ k ∷ rest)) = ap items_len (trimmed-cons following i j k rest) in
-    let h = length-trimmed following (j ∷ k ∷ rest) in
-    omega (arith, e, h)
+length-trimmed following (i ∷ j ∷ k ∷ rest) = let h = length-trimmed following (j ∷ k ∷ rest) in omega (arith, h)
 
--- the items of an instruction take at most 12 bytes
-pub length-items_of : (edges : Edges) (a n : ℕ) (x : Insn) → items_len (items_of edges a n x) ≤ 12
-length-items_of edges a n (insn.Mov w dst src) = omega arith
-length-items_of edges a n (insn.Jmp target) = omega arith
-length-items_of edges a n insn.Syscall = omega arith
-length-items_of edges a n insn.Ud2 = omega arith
+-- the items of an instruction take at most 32 bytes
+pub length-items_of : (edges : Edges) (a n : ℕ) (x : Insn) → items_len (items_of edges a n x) ≤ 32
+length-items_of edges a n x = let short = short_spelling x in go (way_of x) short
+  where
+    go : (w : Way) → spelling_len x ≤ 15 → items_len (items_by w edges a n x) ≤ 32
+    go Onward short = omega (arith, short)
+    go (Jumps target) short = omega arith
+    go (Branches cond target) short = omega arith
+    go Calls short = omega (arith, short)
+    go Halts short = omega (arith, short)
 
 -- the items of an instruction that the table spells are spelled at any place from which they end below 2^31
-pub spelled_items_of : (at : Label → ℕ) → ((to : Label) → at to < 2 ^ 31) → (edges : Edges) (a n : ℕ) (s : List ℕ) (b : ℕ) (x : Insn) → Spells s b x → (from : ℕ) → from + 12 < 2 ^ 31 → n < 2 ^ 32 → AllSpelled at from (items_of edges a n x)
-spelled_items_of at low edges a n s b x (spells_mov c r v small fits) from top next = ((refl, small, fits), ((omega arith, low (to_label edges a n)), tt))
-spelled_items_of at low edges a n s b x (spells_jmp c d fits) from top next = ((omega arith, low (to_label edges a _)), tt)
-spelled_items_of at low edges a n s b x (spells_syscall c) from top next = (tt, ((refl, omega arith, next), ((omega arith, low (to_label edges a n)), tt)))
-spelled_items_of at low edges a n s b x (spells_ud2 c) from top next = (tt, tt)
+pub spelled_items_of : (at : Label → ℕ) → ((to : Label) → at to < 2 ^ 31) → (edges : Edges) (a n : ℕ) (s : List ℕ) (b : ℕ) (x : Insn) → Spells s b x → (from : ℕ) → from + 32 < 2 ^ 31 → n < 2 ^ 32 → AllSpelled at from (items_of edges a n x)
+spelled_items_of at low edges a n s b x spelled from top next = let short = short_spelling x in go (way_of x) refl short
+  where
+    whole : (w : Way) → way_of x ≡ w → target_in w ≡ None → HasSpelling x from
+    whole w is none = spelled_anywhere s b x spelled (ap target_in is ∙ none) from
+
+    go : (w : Way) → way_of x ≡ w → spelling_len x ≤ 15 → AllSpelled at from (items_by w edges a n x)
+    go Onward is short = (whole Onward is refl, ((omega (arith, short, top), low (to_label edges a n)), tt))
+    go (Jumps target) is short = ((omega (arith, top), low (to_label edges a target)), tt)
+    go (Branches cond target) is short = ((omega (arith, top), low (to_label edges a target)), ((omega (arith, top), low (to_label edges a n)), tt))
+    go Calls is short = (whole Calls is refl, ((refl, omega arith, next), ((omega (arith, short, top), low (to_label edges a n)), tt)))
+    go Halts is short = (whole Halts is refl, tt)
 
 module _ (dec : Decoder) (m : Regions) (at : Label → ℕ) (following : Option ℕ) (q : ℕ) (falls : (b : ℕ) → following ≡ Some b → q ≡ at (label.Place b)) where
   -- the items stand from a place to where the fragment ends
@@ -85,20 +86,18 @@ module _ (dec : Decoder) (m : Regions) (at : Label → ℕ) (following : Option 
   -- one item more in front
   behind : (p : ℕ) (i j k : Item) (rest front : List Item) (to : Label) → Trimmed p (i ∷ j ∷ k ∷ rest) → ((r : ℕ) → Trimmed r (j ∷ k ∷ rest) → Leads r front to) → Leads p (i ∷ front) to
   behind p i j k rest front to h ih =
-      let P : List Item → Type 0 = λ l. InsnsAt dec m p (map (resolved at) l) q in
-      let g = subst P (trimmed-cons following i j k rest) h in
-      let t = ih g.0 g.2 in
-      (t.0, (g.0, g.1, t.1), t.2)
+      let t = ih h.0 h.2 in
+      (t.0, (h.0, h.1, t.1), t.2)
 
   -- items that end with a jump: those before it stand, and from their end the run comes to the jump's label
-  pub last_jump : (p : ℕ) (i : Item) (front : List Item) (to : Label) → Trimmed p (i ∷ (front ++ item.Jump to ∷ [])) → Leads p (i ∷ front) to
+  pub last_jump : (p : ℕ) (i : Item) (front : List Item) (to : Label) → Trimmed p (i ∷ (front ++ item.Jump None to ∷ [])) → Leads p (i ∷ front) to
   last_jump p i [] to h = go (is_following following to) refl h
     where
-      go : (b : Bool) → is_following following to ≡ b → InsnsAt dec m p (map (resolved at) (if b then i ∷ [] else (i ∷ item.Jump to ∷ []))) q → Leads p (i ∷ []) to
+      go : (b : Bool) → is_following following to ≡ b → InsnsAt dec m p (map (resolved at) (if b then i ∷ [] else (i ∷ item.Jump None to ∷ []))) q → Leads p (i ∷ []) to
       go true e h = (h.0, (h.0, h.1, refl), Falls (h.2 ∙ follows to e))
-      go false e h = (h.0, (h.0, h.1, refl), Jumps h.2.0 h.2.1)
-  last_jump p i (j ∷ []) to h = behind p i j (item.Jump to) [] (j ∷ []) to h (λ r g. last_jump r j [] to g)
-  last_jump p i (j ∷ k ∷ front) to h = behind p i j k (front ++ item.Jump to ∷ []) (j ∷ k ∷ front) to h (λ r g. last_jump r j (k ∷ front) to g)
+      go false e h = (h.0, (h.0, h.1, refl), ByJump h.2.0 h.2.1)
+  last_jump p i (j ∷ []) to h = behind p i j (item.Jump None to) [] (j ∷ []) to h (λ r g. last_jump r j [] to g)
+  last_jump p i (j ∷ k ∷ front) to h = behind p i j k (front ++ item.Jump None to ∷ []) (j ∷ k ∷ front) to h (λ r g. last_jump r j (k ∷ front) to g)
 
 module _ (dec : Decoder) (edges : Edges) (lay : Layout) (place : ℕ → ℕ) (m : Regions) (at : Label → ℕ)
     (at_place : (b : ℕ) → at (label.Place b) ≡ place b)
@@ -114,13 +113,20 @@ module _ (dec : Decoder) (edges : Edges) (lay : Layout) (place : ℕ → ℕ) (m
   -- where the trimmed items of an instruction stand, its fragment stands
   pub fragment_stands : (a n : ℕ) (x : Insn) (following : Option ℕ) (q : ℕ) → ((b : ℕ) → following ≡ Some b → q ≡ place b) → n < 2 ^ 32 → IsInside lay.code (place a)
       → InsnsAt dec m (place a) (map (resolved at) (trimmed following (items_of edges a n x))) q → FragmentAt dec edges lay place m a n x
-  fragment_stands a n (insn.Mov w dst src) following q falls low inside h =
-      let l = last_jump dec m at following q (λ b e. falls b e ∙ sym (at_place b)) (place a) (item.Whole (insn.Mov w dst src)) [] (to_label edges a n) h in
-      (l.1.0, l.1.1, subst (Onto dec m l.1.0) (at_label a n) (subst (λ p. Onto dec m p (at (to_label edges a n))) (sym l.1.2) l.2))
-  fragment_stands a n (insn.Jmp b) following q falls low inside h =
-      (h.0, subst (λ t. InsnAt dec m (place a) (insn.Jmp t) h.0) (at_label a b) h.1)
-  fragment_stands a n insn.Syscall following q falls low inside h =
-      let l = last_jump dec m at following q (λ b e. falls b e ∙ sym (at_place b)) (place a) (item.Whole insn.Syscall) (item.Whole (mov_number 1 n) ∷ []) (to_label edges a n) h in
-      let end = l.1.2.0 in
-      (l.1.0, end, low, l.1.1, l.1.2.1, subst (Onto dec m end) (at_label a n) (subst (λ p. Onto dec m p (at (to_label edges a n))) (sym l.1.2.2) l.2))
-  fragment_stands a n insn.Ud2 following q falls low inside h = (h.0, h.1, inside)
+  fragment_stands a n x following q falls low inside = go (way_of x)
+    where
+      -- a last jump to the next address
+      last : (i : Item) (front : List Item) → InsnsAt dec m (place a) (map (resolved at) (trimmed following (i ∷ (front ++ jump_to edges a n ∷ [])))) q → Leads dec m at following q (λ b e. falls b e ∙ sym (at_place b)) (place a) (i ∷ front) (to_label edges a n)
+      last i front h = last_jump dec m at following q (λ b e. falls b e ∙ sym (at_place b)) (place a) i front (to_label edges a n) h
+
+      onto_next : (p r : ℕ) → p ≡ r → Onto dec m r (at (to_label edges a n)) → Onto dec m p (dest edges place lay.stub a n)
+      onto_next p r e o = subst (Onto dec m p) (at_label a n) (subst (λ v. Onto dec m v (at (to_label edges a n))) (sym e) o)
+
+      go : (w : Way) → InsnsAt dec m (place a) (map (resolved at) (trimmed following (items_by w edges a n x))) q → FragmentBy w dec edges lay place m a n x
+      go Onward h = let l = last (item.Whole x) [] h in (l.1.0, l.1.1, onto_next l.1.0 l.0 l.1.2 l.2)
+      go (Jumps b) h = (h.0, subst (λ t. InsnAt dec m (place a) (insn.Jmp t) h.0) (at_label a b) h.1)
+      go (Branches c b) h =
+          let l = last (item.Jump (Some c) (to_label edges a b)) [] h in
+          (l.1.0, subst (λ t. InsnAt dec m (place a) (insn.Jcc c t) l.1.0) (at_label a b) l.1.1, onto_next l.1.0 l.0 l.1.2 l.2)
+      go Calls h = let l = last (item.Whole x) (item.Whole (mov_number 1 n) ∷ []) h in let end = l.1.2.0 in (l.1.0, end, low, l.1.1, l.1.2.1, onto_next end l.0 l.1.2.2 l.2)
+      go Halts h = (h.0, h.1, inside)

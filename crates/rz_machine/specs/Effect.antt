@@ -1,11 +1,15 @@
 -- What one instruction does, in one form: at most two reads of memory, and then at most one write.
--- (Intel SDM, volume 2, "MOV", "JMP", "UD2"; volume 1, section 3.4.1.1 on registers in 64-bit mode.)
-use Rattle.std.specs.Prelude.{◌≡◌, ℕ, ◌+◌, ◌-◌, List, [], ◌∷◌, get_or, set, Option, Some, None, Result, Ok, Err}
+-- (Intel SDM, volume 2, "ADD", "CMP", "MOV", "Jcc", "JMP", "UD2"; volume 1, section 3.4.1.1 on registers in 64-bit mode.)
+use Rattle.std.specs.Prelude.{◌≡◌, ℕ, ◌+◌, ◌-◌, Bool, true, false, if◌then◌else◌, List, [], ◌∷◌, get_or, set, Option, Some, None, Result, Ok, Err}
 use Rattle.byteorder.specs.Endian.{little_bytes, little_number}
 use Rattle.rz_num.specs.declared.width.Width.{Width}
 use Rattle.rz_num.specs.declared.width.Width.TheVariants.{W8, W16, W32, W64}
 use Rattle.rz_num.specs.Width.{low_bits}
-use Rattle.rz_machine.specs.declared.flags.Flags.{Flags}
+use Rattle.rz_flags.specs.declared.Flags.{Flags}
+use Rattle.rz_flags.specs.declared.ArithOp.{ArithOp}
+use Rattle.rz_flags.specs.declared.ArithOp.TheVariants.{Cmp}
+use Rattle.rz_flags.specs.Cond.{holds}
+use Rattle.rz_alu.specs.Arith.{arith}
 use Rattle.rz_machine.specs.declared.insn.Reg.TheVariants.{R}
 use Rattle.rz_machine.specs.declared.insn.Place.TheVariants as place
 use Rattle.rz_machine.specs.declared.insn.Operand.TheVariants.{Imm}
@@ -13,6 +17,7 @@ use Rattle.rz_machine.specs.declared.insn.Insn.{Insn}
 use Rattle.rz_machine.specs.declared.insn.Insn.TheVariants as insn
 use Rattle.rz_machine.specs.declared.machine.End.{End}
 use Rattle.rz_machine.specs.declared.machine.End.TheVariants as end
+use Rattle.rz_machine.specs.Insn.{Way, Onward, Jumps, Branches, Calls, Halts}
 use Rattle.rz_machine.specs.Memory.{Regions, Range, IsClear, refused, is_readable, is_writable, bytes_at, put_bytes}
 
 -- what becomes of an instruction: registers, flags, the word to write, and where a transfer leads; or the end of the run
@@ -41,16 +46,52 @@ written W64 old v = low_bits W64 v
 abbrev pub put_reg : Width → List ℕ → ℕ → ℕ → List ℕ
 put_reg w regs r v = set regs r (written w (get_or regs r 0) v)
 
+-- what a plain instruction leaves: registers, flags and the word to write
+pub record Leaves : Type 0 where
+  pub regs : List ℕ
+  pub flags : Flags
+  pub word : ℕ
+
+-- the effect of a plain instruction, which goes on to the next address and doesn't see its own
+pub record PlainEffect : Type 0 where
+  pub reads : List Access
+  pub write : Option Access
+  pub gives : List ℕ → Leaves
+
+-- one that touches no memory
+abbrev pub unread : List ℕ → Flags → PlainEffect
+unread regs flags = record { reads = []; write = None; gives = λ words. record { regs = regs; flags = flags; word = 0 } }
+
+-- CMP alone writes nothing
+abbrev pub is_written : ArithOp → Bool
+is_written Cmp = false
+is_written op = true
+
+-- of plain instructions alone
+abbrev pub plain_effect : Insn → List ℕ → Flags → PlainEffect
+plain_effect (insn.Arith op w (place.Reg (R dst)) (Imm imm)) regs flags =
+    let a = arith op w (get_or regs dst 0) imm flags in
+    unread (if is_written op then put_reg w regs dst a.value else regs) a.flags
+plain_effect (insn.Mov w (place.Reg (R dst)) (Imm imm)) regs flags = unread (put_reg w regs dst imm) flags
+plain_effect x regs flags = unread regs flags
+
+abbrev onward_with : Leaves → Outcome
+onward_with l = Goes l.regs l.flags l.word None
+
+abbrev pub plainly : PlainEffect → Effect
+plainly p = record { reads = p.reads; write = p.write; gives = λ words. onward_with (p.gives words) }
+
 -- an effect that touches no memory
 abbrev pub simple : Outcome → Effect
 simple o = record { reads = []; write = None; gives = λ words. o }
 
--- the effect of an instruction that is no system call, at the address `here`
-abbrev pub effect : Insn → ℕ → List ℕ → Flags → Effect
-effect (insn.Mov w (place.Reg (R dst)) (Imm imm)) here regs flags = simple (Goes (put_reg w regs dst imm) flags 0 None)
-effect (insn.Jmp target) here regs flags = simple (Goes regs flags 0 (Some target))
-effect insn.Syscall here regs flags = simple (Goes regs flags 0 None)
-effect insn.Ud2 here regs flags = simple (Stops (end.Illegal here))
+-- the effect of an instruction of a way, which is no system call, at the address `here`
+abbrev pub effect_by : Way → Insn → ℕ → List ℕ → Flags → Effect
+effect_by Onward x here regs flags = plainly (plain_effect x regs flags)
+effect_by (Jumps target) x here regs flags = simple (Goes regs flags 0 (Some target))
+effect_by (Branches cond target) x here regs flags = simple (Goes regs flags 0 (if holds cond flags then Some target else None))
+effect_by Calls x here regs flags = simple (Goes regs flags 0 None)
+effect_by Halts x here regs flags = simple (Stops (end.Illegal here))
 
 -- what is left after it
 pub data Done : Type 0 where

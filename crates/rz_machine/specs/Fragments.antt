@@ -10,7 +10,7 @@ use Rattle.rz_machine.specs.declared.items.Item.{Item}
 use Rattle.rz_machine.specs.declared.items.Item.TheVariants as item
 use Rattle.rz_machine.specs.declared.items.Fragment.{Fragment}
 use Rattle.rz_machine.specs.Memory.{Regions, wrap}
-use Rattle.rz_machine.specs.Insn.{Decoder}
+use Rattle.rz_machine.specs.Insn.{Decoder, Way, Onward, Jumps, Branches, Calls, Halts, way_of}
 use Rattle.rz_machine.specs.First.{mov_number, spelling, spelling_len}
 use Rattle.rz_machine.specs.Keeps.{Edges, has_edge}
 use Rattle.rz_machine.specs.Nodes.{spelled_at}
@@ -20,13 +20,20 @@ use Rattle.rz_machine.specs.Added.{Added, index_of}
 abbrev pub to_label : Edges → ℕ → ℕ → Label
 to_label edges a b = if has_edge edges a b then label.Place b else label.Stub a
 
+-- a jump that always goes there
+abbrev pub jump_to : Edges → ℕ → ℕ → Item
+jump_to edges a b = item.Jump None (to_label edges a b)
+
 -- the whole sequence for the instruction at a, before `next`; after a system call RCX is the original's next address
+abbrev pub items_by : Way → Edges → ℕ → ℕ → Insn → List Item
+items_by Onward edges a next x = item.Whole x ∷ jump_to edges a next ∷ []
+items_by (Jumps target) edges a next x = jump_to edges a target ∷ []
+items_by (Branches cond target) edges a next x = item.Jump (Some cond) (to_label edges a target) ∷ jump_to edges a next ∷ []
+items_by Calls edges a next x = item.Whole x ∷ item.Whole (mov_number 1 next) ∷ jump_to edges a next ∷ []
+items_by Halts edges a next x = item.Whole x ∷ []
+
 abbrev pub items_of : Edges → ℕ → ℕ → Insn → List Item
-items_of edges a next (insn.Jmp target) = item.Jump (to_label edges a target) ∷ []
-items_of edges a next insn.Syscall =
-    item.Whole insn.Syscall ∷ item.Whole (mov_number 1 next) ∷ item.Jump (to_label edges a next) ∷ []
-items_of edges a next insn.Ud2 = item.Whole insn.Ud2 ∷ []
-items_of edges a next x = item.Whole x ∷ item.Jump (to_label edges a next) ∷ []
+items_of edges a next x = items_by (way_of x) edges a next x
 
 -- the items of what the bytes at a spell; where they spell nothing the run would end
 abbrev pub items_for : Edges → ℕ → Decoded → List Item
@@ -37,12 +44,16 @@ abbrev pub is_following : Option ℕ → Label → Bool
 is_following (Some b) (label.Place a) = a == b
 is_following _ _ = false
 
+-- a jump to the fragment that follows
+abbrev pub is_needless : Option ℕ → Item → Bool
+is_needless following (item.Jump None to) = is_following following to
+is_needless following i = false
+
 -- without a last jump to the fragment that follows, where it isn't the only item
 abbrev pub trimmed : Option ℕ → List Item → List Item
 trimmed following [] = []
 trimmed following (i ∷ []) = i ∷ []
-trimmed following (i ∷ item.Jump to ∷ []) = if is_following following to then i ∷ [] else (i ∷ item.Jump to ∷ [])
-trimmed following (i ∷ item.Whole x ∷ []) = i ∷ item.Whole x ∷ []
+trimmed following (i ∷ j ∷ []) = if is_needless following j then i ∷ [] else (i ∷ j ∷ [])
 trimmed following (i ∷ j ∷ k ∷ rest) = i ∷ trimmed following (j ∷ k ∷ rest)
 
 abbrev pub first_node : List ℕ → Option ℕ
@@ -58,7 +69,8 @@ fragments dec m edges (a ∷ rest) =
 -- lengths in bytes, every jump near
 abbrev pub item_len : Item → ℕ
 item_len (item.Whole x) = spelling_len x
-item_len (item.Jump to) = 5
+item_len (item.Jump None to) = 5
+item_len (item.Jump (Some cond) to) = 6
 
 abbrev pub items_len : List Item → ℕ
 items_len [] = 0
@@ -81,7 +93,8 @@ address_of frags nodes parts (label.Stub a) = parts.stubs + 24 * index_of nodes 
 
 abbrev pub resolved : (Label → ℕ) → Item → Insn
 resolved at (item.Whole x) = x
-resolved at (item.Jump to) = insn.Jmp (at to)
+resolved at (item.Jump None to) = insn.Jmp (at to)
+resolved at (item.Jump (Some cond) to) = insn.Jcc cond (at to)
 
 -- the items' spellings one after the other, from an address on
 abbrev pub items_bytes : (Label → ℕ) → ℕ → List Item → List ℕ

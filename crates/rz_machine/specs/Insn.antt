@@ -1,6 +1,7 @@
--- Instructions: their kinds, their static successors, and what a table may name.
+-- Instructions: how each goes on, its static successors, and what a table may name.
 use Rattle.std.specs.Prelude.{ℕ, ◌^◌, ◌<◌, Bool, true, false, List, [], ◌∷◌, Option, Some, None}
 use Rattle.rz_num.specs.Width.{size}
+use Rattle.rz_flags.specs.declared.Cond.{Cond}
 use Rattle.rz_machine.specs.declared.insn.Reg.TheVariants.{R}
 use Rattle.rz_machine.specs.declared.insn.Place.TheVariants as place
 use Rattle.rz_machine.specs.declared.insn.Operand.TheVariants.{Imm}
@@ -10,18 +11,44 @@ use Rattle.rz_machine.specs.declared.insn.Kind.{Kind}
 use Rattle.rz_machine.specs.declared.insn.Kind.TheVariants as kind
 use Rattle.rz_machine.specs.declared.decode.Decoded.{Decoded}
 
+-- how an instruction goes on, as far as it says itself
+pub data Way : Type 0 where
+  -- to the next address
+  Onward : Way
+  Jumps : (target : ℕ) → Way
+  -- to a target where a condition holds, else to the next address
+  Branches : (cond : Cond) (target : ℕ) → Way
+  -- by a system call
+  Calls : Way
+  -- it ends the run
+  Halts : Way
+
+-- all others are plain
+abbrev pub way_of : Insn → Way
+way_of (insn.Jcc cond target) = Branches cond target
+way_of (insn.Jmp target) = Jumps target
+way_of insn.Syscall = Calls
+way_of insn.Ud2 = Halts
+way_of x = Onward
+
+abbrev pub kind_in : Way → Kind
+kind_in Onward = kind.Plain
+kind_in (Jumps target) = kind.Jmp
+kind_in (Branches cond target) = kind.Jcc
+kind_in Calls = kind.Syscall
+kind_in Halts = kind.Halt
+
 abbrev pub kind_of : Insn → Kind
-kind_of (insn.Mov w dst src) = kind.Plain
-kind_of (insn.Jmp target) = kind.Jmp
-kind_of insn.Syscall = kind.Syscall
-kind_of insn.Ud2 = kind.Halt
+kind_of x = kind_in (way_of x)
+
+abbrev pub target_in : Way → Option ℕ
+target_in (Jumps target) = Some target
+target_in (Branches cond target) = Some target
+target_in w = None
 
 -- the address that a direct transfer names
 abbrev pub target_of : Insn → Option ℕ
-target_of (insn.Mov w dst src) = None
-target_of (insn.Jmp target) = Some target
-target_of insn.Syscall = None
-target_of insn.Ud2 = None
+target_of x = target_in (way_of x)
 
 -- a transfer whose target isn't in the instruction
 abbrev pub is_site : Kind → Bool
@@ -34,7 +61,7 @@ abbrev option_list : Option ℕ → List ℕ
 option_list None = []
 option_list (Some a) = a ∷ []
 
-abbrev direct_by : Kind → Option ℕ → ℕ → List ℕ
+abbrev pub direct_by : Kind → Option ℕ → ℕ → List ℕ
 direct_by kind.Plain target next = next ∷ []
 direct_by kind.Syscall target next = next ∷ []
 direct_by kind.Jcc target next = next ∷ option_list target
@@ -53,7 +80,9 @@ Decoder = List ℕ → ℕ → Decoded
 
 -- register numbers are below 16, and numbers and targets fit
 abbrev pub IsNamed : Insn → Type 0
+IsNamed (insn.Arith op w (place.Reg (R dst)) (Imm imm)) = (dst < 16) × (imm < size w)
 IsNamed (insn.Mov w (place.Reg (R dst)) (Imm imm)) = (dst < 16) × (imm < size w)
+IsNamed (insn.Jcc cond target) = target < 2 ^ 64
 IsNamed (insn.Jmp target) = target < 2 ^ 64
 IsNamed insn.Syscall = Unit {0}
 IsNamed insn.Ud2 = Unit {0}

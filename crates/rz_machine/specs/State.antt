@@ -1,26 +1,17 @@
 -- The machine's step, and runs of it. A state is a `Machine`: registers, memory, the outside, and an end or none.
-use Rattle.std.specs.Prelude.{ℕ, zero, suc, ◌+◌, Bool, true, false, List, set, Option, Some, None}
-use Rattle.rz_machine.specs.declared.flags.Flags.{Flags}
+use Rattle.std.specs.Prelude.{ℕ, zero, suc, ◌+◌, List, set, Option, Some, None}
+use Rattle.rz_flags.specs.declared.Flags.{Flags}
+use Rattle.rz_flags.specs.Word.{flags_word}
 use Rattle.rz_machine.specs.declared.insn.Insn.{Insn}
-use Rattle.rz_machine.specs.declared.insn.Insn.TheVariants as insn
 use Rattle.rz_machine.specs.declared.decode.Decoded.{Decoded}
 use Rattle.rz_machine.specs.declared.decode.Decoded.TheVariants as decoded
 use Rattle.rz_machine.specs.declared.machine.End.{End}
 use Rattle.rz_machine.specs.declared.machine.End.TheVariants as end
 use Rattle.rz_machine.specs.declared.machine.Machine.{Machine}
 use Rattle.rz_machine.specs.Memory.{fetch, wrap}
-use Rattle.rz_machine.specs.Insn.{Decoder}
-use Rattle.rz_machine.specs.Effect.{effect, carry, Done, Went, Stopped}
+use Rattle.rz_machine.specs.Insn.{Decoder, Way, Calls, way_of}
+use Rattle.rz_machine.specs.Effect.{effect_by, carry, Done, Went, Stopped}
 use Rattle.rz_machine.specs.Answer.{Called, answer, world_after}
-
-abbrev pub bit_of : Bool → ℕ → ℕ
-bit_of true n = n
-bit_of false n = 0
-
--- the flags as a word (Intel SDM, volume 1, section 3.4.3): bit 1 is always set, and interrupts are on
-abbrev pub flags_word : Flags → ℕ
-flags_word f =
-    0x202 + bit_of f.cf 1 + bit_of f.pf 4 + bit_of f.af 16 + bit_of f.zf 64 + bit_of f.sf 128 + bit_of f.df 1024 + bit_of f.of 2048
 
 abbrev pub stopped : End → Machine → Machine
 stopped why s = record s { end = Some why }
@@ -51,13 +42,16 @@ abbrev pub after_call : Called → ℕ → Machine → Machine
 after_call c next s = after_exit c.exit c next s
 
 -- an instruction that isn't a system call
-abbrev pub perform_effect : Insn → ℕ → Machine → Machine
-perform_effect x next s = after_done (carry (effect x s.cpu.rip s.cpu.regs s.cpu.flags) s.mem) next s
+abbrev pub perform_effect : Way → Insn → ℕ → Machine → Machine
+perform_effect w x next s = after_done (carry (effect_by w x s.cpu.rip s.cpu.regs s.cpu.flags) s.mem) next s
+
+abbrev pub perform_by : Way → Insn → ℕ → Machine → Machine
+perform_by Calls x next s = after_call (answer s.cpu.regs s.mem s.world) next s
+perform_by w x next s = perform_effect w x next s
 
 -- an instruction before `next`
 abbrev pub perform : Insn → ℕ → Machine → Machine
-perform insn.Syscall next s = after_call (answer s.cpu.regs s.mem s.world) next s
-perform x next s = perform_effect x next s
+perform x next s = perform_by (way_of x) x next s
 
 -- what the executable bytes at RIP spell
 abbrev pub decoded_at : Decoder → Machine → Decoded

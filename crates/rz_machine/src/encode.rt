@@ -2,9 +2,10 @@
 
 ghost use Rattle.std.specs.Prelude.{◌≡◌, ◌++◌, ◌<◌, ◌^◌, OnOk};
 ghost use Rattle.byteorder.specs.Endian.{little_bytes};
-ghost use Rattle.rz_machine.specs.First.{spelling, spelling_len, HasSpelling, displacement};
+ghost use Rattle.rz_machine.specs.First.{spelling, spelling_len, HasSpelling, digit_of, displacement};
 
 use crate::insn::{Insn, Operand, Place, Reg};
+use rz_flags::ArithOp;
 use rz_num::{Bytes, OutOfMemory};
 
 /// Appends the canonical spelling of an instruction at the address `at`. It refuses for want of memory alone.
@@ -13,6 +14,12 @@ pub fn encode(insn: &Insn, at: u64, out: &mut Bytes) -> Result<(), OutOfMemory>
     ensures { OnOk result (out.new ≡ out.old ++ spelling insn.now at) }
 {
     match *insn {
+        Insn::Arith {
+            op,
+            dst: Place::Reg(Reg::R(dst)),
+            src: Operand::Imm(imm),
+            ..
+        } => out.push_all(&[0x83, 0xc0 + 8 * digit(op) + dst, (imm % 0x100) as u8]),
         Insn::Mov {
             dst: Place::Reg(Reg::R(dst)),
             src: Operand::Imm(imm),
@@ -20,6 +27,10 @@ pub fn encode(insn: &Insn, at: u64, out: &mut Bytes) -> Result<(), OutOfMemory>
         } => {
             out.push(0xb8 + dst)?;
             push_u32(out, imm as u32)
+        }
+        Insn::Jcc { cond, target } => {
+            out.push_all(&[0x0f, 0x80 + cond.number()])?;
+            push_u32(out, displacement_to(at + 6, target))
         }
         Insn::Jmp { target } => {
             out.push(0xe9)?;
@@ -35,8 +46,27 @@ pub fn encoded_len(insn: &Insn) -> u64
     ensures { result ≡ spelling_len insn.now }
 {
     match *insn {
+        Insn::Arith { .. } => 3,
+        Insn::Jcc { .. } => 6,
         Insn::Mov { .. } | Insn::Jmp { .. } => 5,
         Insn::Syscall | Insn::Ud2 => 2,
+    }
+}
+
+// The digit of the opcode 83 that names an operation.
+fn digit(op: ArithOp) -> u8
+    ensures value { result ≡ digit_of op }
+    ensures low { result < 8 }
+{
+    match op {
+        ArithOp::Add => 0,
+        ArithOp::Or => 1,
+        ArithOp::Adc => 2,
+        ArithOp::Sbb => 3,
+        ArithOp::And => 4,
+        ArithOp::Sub => 5,
+        ArithOp::Xor => 6,
+        ArithOp::Cmp => 7,
     }
 }
 

@@ -1,13 +1,18 @@
-//! The first table: MOV of four bytes to a 32-bit register, JMP, SYSCALL and UD2
-//! (Intel SDM, volume 2, "MOV", "JMP", "SYSCALL" and "UD2").
+//! The first table: ADD and CMP of a 32-bit register and a byte, MOV of four bytes to a 32-bit register, Jcc, JMP,
+//! SYSCALL and UD2 (Intel SDM, volume 2, "ADD", "CMP", "MOV", "Jcc", "JMP", "SYSCALL" and "UD2").
 
-ghost use Rattle.std.specs.Prelude.{◌≡◌, ◌-◌, ◌<◌};
-ghost use Rattle.rz_machine.specs.First.{decode_first, mov_of, jmp_of, second_of, displaced};
+ghost use Rattle.std.specs.Prelude.{◌≡◌, ◌+◌, ◌-◌, ◌<◌};
+ghost use Rattle.rz_num.specs.declared.width.Width.TheVariants.{W8, W32};
+ghost use Rattle.rz_num.specs.Width.{size};
+ghost use Rattle.rz_flags.specs.Cond.{cond_of};
+ghost use Rattle.rz_machine.specs.declared.insn.Insn.TheVariants as insn;
+ghost use Rattle.rz_machine.specs.First.{decode_first, mov_number, arith_byte, with_byte as with_byte_of, with_four, arith_of, second_of, displaced};
 
 use crate::decode::Decoded;
 use crate::insn::{Insn, Operand, Place, Reg};
 use crate::table::InsnTable;
-use rz_num::{Width, sign_extend};
+use rz_flags::{ArithOp, Cond};
+use rz_num::{Width, mask, sign_extend};
 
 /// The first table.
 pub struct First;
@@ -41,19 +46,53 @@ fn decode(bytes: &[u8], at: u64) -> Decoded
 {
     match bytes {
         [] => Decoded::Short,
-        [0xe9, rest @ ..] => jump(rest, at),
-        [0x0f, rest @ ..] => second(rest),
+        [first @ 0x70..=0x7f, rest @ ..] => short_branch(*first - 0x70, rest, at),
         [first @ 0xb8..=0xbf, rest @ ..] => mov(*first - 0xb8, rest),
+        [0x83, rest @ ..] => arith(rest),
+        [0x0f, rest @ ..] => second(rest, at),
+        [0xeb, rest @ ..] => short_jump(rest, at),
+        [0xe9, rest @ ..] => jump(rest, at),
         _ => Decoded::Unknown,
     }
 }
 
-// After the byte 0F.
-fn second(bytes: &[u8]) -> Decoded
-    ensures { result ≡ second_of bytes.now }
+// After the byte 83.
+fn arith(bytes: &[u8]) -> Decoded
+    ensures { result ≡ arith_of bytes.now }
 {
     match bytes {
         [] => Decoded::Short,
+        [form @ 0xc0..=0xc7, rest @ ..] => with_byte(ArithOp::Add, *form - 0xc0, rest),
+        [form @ 0xf8..=0xff, rest @ ..] => with_byte(ArithOp::Cmp, *form - 0xf8, rest),
+        _ => Decoded::Unknown,
+    }
+}
+
+// An operation on a 32-bit register and the byte that comes first.
+fn with_byte(op: ArithOp, register: u8, bytes: &[u8]) -> Decoded
+    ensures { result ≡ with_byte_of 3 (arith_byte op register) bytes.now }
+{
+    match bytes {
+        [] => Decoded::Short,
+        [byte, ..] => Decoded::Insn {
+            insn: Insn::Arith {
+                op,
+                w: Width::W32,
+                dst: Place::Reg(Reg::R(register)),
+                src: Operand::Imm(mask(Width::W32, sign_extend(Width::W8, *byte as u64))),
+            },
+            len: 3,
+        },
+    }
+}
+
+// After the byte 0F, which stands at an address.
+fn second(bytes: &[u8], at: u64) -> Decoded
+    ensures { result ≡ second_of at bytes.now }
+{
+    match bytes {
+        [] => Decoded::Short,
+        [second @ 0x80..=0x8f, rest @ ..] => branch(*second - 0x80, rest, at),
         [0x05, ..] => Decoded::Insn {
             insn: Insn::Syscall,
             len: 2,
@@ -68,7 +107,7 @@ fn second(bytes: &[u8]) -> Decoded
 
 // After the byte that names a register.
 fn mov(register: u8, bytes: &[u8]) -> Decoded
-    ensures { result ≡ mov_of register bytes.now }
+    ensures { result ≡ with_four 5 (mov_number register) bytes.now }
 {
     match bytes {
         [a, b, c, d, ..] => Decoded::Insn {
@@ -83,14 +122,71 @@ fn mov(register: u8, bytes: &[u8]) -> Decoded
     }
 }
 
+// After the byte at an address that names a condition.
+fn short_branch(condition: u8, bytes: &[u8], at: u64) -> Decoded
+    requires { condition < 16 }
+    ensures { result ≡ with_byte_of 2 (λ d. insn.Jcc (cond_of condition) (displaced W8 (at + 2) d)) bytes.now }
+{
+    match bytes {
+        [] => Decoded::Short,
+        [byte, ..] => Decoded::Insn {
+            insn: Insn::Jcc {
+                cond: Cond::from_number(condition),
+                target: short_target(at, *byte),
+            },
+            len: 2,
+        },
+    }
+}
+
+// After the byte 0F at an address and the byte that names a condition.
+fn branch(condition: u8, bytes: &[u8], at: u64) -> Decoded
+    requires { condition < 16 }
+    ensures { result ≡ with_four 6 (λ d. insn.Jcc (cond_of condition) (displaced W32 (at + 6) d)) bytes.now }
+{
+    match bytes {
+        [a, b, c, d, ..] => Decoded::Insn {
+            insn: Insn::Jcc {
+                cond: Cond::from_number(condition),
+                target: displace(
+                    Width::W32,
+                    at.wrapping_add(6),
+                    u32::from_le_bytes([*a, *b, *c, *d]) as u64,
+                ),
+            },
+            len: 6,
+        },
+        _ => Decoded::Short,
+    }
+}
+
+// After the byte EB at an address.
+fn short_jump(bytes: &[u8], at: u64) -> Decoded
+    ensures { result ≡ with_byte_of 2 (λ d. insn.Jmp (displaced W8 (at + 2) d)) bytes.now }
+{
+    match bytes {
+        [] => Decoded::Short,
+        [byte, ..] => Decoded::Insn {
+            insn: Insn::Jmp {
+                target: short_target(at, *byte),
+            },
+            len: 2,
+        },
+    }
+}
+
 // After the byte E9 at an address.
 fn jump(bytes: &[u8], at: u64) -> Decoded
-    ensures { result ≡ jmp_of at bytes.now }
+    ensures { result ≡ with_four 5 (λ d. insn.Jmp (displaced W32 (at + 5) d)) bytes.now }
 {
     match bytes {
         [a, b, c, d, ..] => Decoded::Insn {
             insn: Insn::Jmp {
-                target: displace(at.wrapping_add(5), u32::from_le_bytes([*a, *b, *c, *d])),
+                target: displace(
+                    Width::W32,
+                    at.wrapping_add(5),
+                    u32::from_le_bytes([*a, *b, *c, *d]) as u64,
+                ),
             },
             len: 5,
         },
@@ -98,11 +194,19 @@ fn jump(bytes: &[u8], at: u64) -> Decoded
     }
 }
 
-// The address that a displacement from `next` names.
-fn displace(next: u64, displacement: u32) -> u64
-    ensures { result ≡ displaced next displacement }
+// The target of a jump of two bytes at an address, by its displacement.
+fn short_target(at: u64, displacement: u8) -> u64
+    ensures { result ≡ displaced W8 (at + 2) displacement }
 {
-    next.wrapping_add(sign_extend(Width::W32, displacement as u64))
+    displace(Width::W8, at.wrapping_add(2), displacement as u64)
+}
+
+// The address that a displacement of a width from `next` names.
+fn displace(w: Width, next: u64, displacement: u64) -> u64
+    requires { displacement < size w }
+    ensures { result ≡ displaced w next displacement }
+{
+    next.wrapping_add(sign_extend(w, displacement))
 }
 
 #[cfg(test)]

@@ -1,5 +1,6 @@
 //! Instructions: what a spelling names.
 
+use rz_flags::{ArithOp, Cond};
 use rz_num::Width;
 
 /// A general register: its number, 0 to 15 (Intel SDM, volume 2, section 2.1.5).
@@ -23,10 +24,28 @@ pub enum Operand {
 /// One instruction. A direct target is an address.
 #[derive(Clone, Copy, PartialEq, Eq)]
 pub enum Insn {
+    /// Arithmetic and logic at a width: `dst` becomes its value with `src`, and the flags are set.
+    Arith {
+        op: ArithOp,
+        w: Width,
+        dst: Place,
+        src: Operand,
+    },
     /// MOV: `dst` becomes `src`, at a width.
-    Mov { w: Width, dst: Place, src: Operand },
+    Mov {
+        w: Width,
+        dst: Place,
+        src: Operand,
+    },
+    /// A jump to an address where a condition holds.
+    Jcc {
+        cond: Cond,
+        target: u64,
+    },
     /// JMP to an address.
-    Jmp { target: u64 },
+    Jmp {
+        target: u64,
+    },
     /// SYSCALL.
     Syscall,
     /// UD2, which ends the run.

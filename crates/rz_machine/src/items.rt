@@ -3,6 +3,7 @@
 ghost use Rattle.std.specs.Prelude.{◌≡◌, [], ◌∷◌, ◌++◌, OnOk, OnErr, IfOk};
 
 use crate::insn::Insn;
+use rz_flags::Cond;
 use rz_num::OutOfMemory;
 use std::alloc::Global;
 use std::marker::Model;
@@ -21,8 +22,8 @@ pub enum Label {
 pub enum Item {
     /// An instruction as it is.
     Whole(Insn),
-    /// A jump to a label.
-    Jump { to: Label },
+    /// A jump to a label, under a condition or always.
+    Jump { cond: Option<Cond>, to: Label },
 }
 
 /// Items one after the other.

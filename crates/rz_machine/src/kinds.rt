@@ -10,10 +10,11 @@ pub fn kind(insn: &Insn) -> Kind
     ensures { result ≡ kind_of insn.now }
 {
     match insn {
-        Insn::Mov { .. } => Kind::Plain,
+        Insn::Jcc { .. } => Kind::Jcc,
         Insn::Jmp { .. } => Kind::Jmp,
         Insn::Syscall => Kind::Syscall,
         Insn::Ud2 => Kind::Halt,
+        _ => Kind::Plain,
     }
 }
 
@@ -22,7 +23,7 @@ pub fn target(insn: &Insn) -> Option<u64>
     ensures { result ≡ target_of insn.now }
 {
     match insn {
-        Insn::Jmp { target } => Some(*target),
-        Insn::Mov { .. } | Insn::Syscall | Insn::Ud2 => None,
+        Insn::Jcc { target, .. } | Insn::Jmp { target } => Some(*target),
+        _ => None,
     }
 }

@@ -8,7 +8,6 @@ pub mod elf_law;
 pub mod elf_write;
 pub mod encode;
 pub mod first;
-pub mod flags;
 pub mod insn;
 pub mod items;
 pub mod kinds;

@@ -1,16 +1,17 @@
 //! The machine: registers, memory and the outside, and its step.
 
 ghost use Rattle.std.specs.Prelude.{◌≡◌};
-ghost use Rattle.rz_machine.specs.Effect.{written as written_over};
+ghost use Rattle.rz_machine.specs.Effect.{written as written_over, is_written};
 ghost use Rattle.rz_machine.specs.TableLaws.{AreBytes};
 
 use crate::call::syscall;
 use crate::decode::Decoded;
-use crate::flags::{Flags, to_word};
 use crate::insn::{Insn, Operand, Place, Reg};
 use crate::memory::Memory;
 use crate::sys::World;
 use crate::table::InsnTable;
+use rz_alu::arith;
+use rz_flags::{ArithOp, Cond, Flags, holds, to_word};
 use rz_num::{OutOfMemory, Width, mask};
 use std::alloc::Global;
 
@@ -69,6 +70,10 @@ impl Machine {
     ghost use Rattle.std.specs.Prelude.{◌≡◌, ◌<◌, ℕ, OnOk, OnErr, IfOk};
     ghost use Rattle.rz_machine.specs.State.{step as step_of, after as after_of, perform as perform_of, after_call};
     ghost use Rattle.rz_machine.specs.Answer.{answer};
+    ghost use Rattle.rz_machine.specs.declared.insn.Reg.TheVariants.{R};
+    ghost use Rattle.rz_machine.specs.declared.insn.Place.TheVariants as place;
+    ghost use Rattle.rz_machine.specs.declared.insn.Operand.TheVariants.{Imm};
+    ghost use Rattle.rz_machine.specs.declared.insn.Insn.TheVariants as insn;
     ghost use Rattle.rz_machine.specs.Insn.{IsNamed};
     ghost use Rattle.rz_machine.specs.Ran.{outcome_of};
 
@@ -137,6 +142,12 @@ impl Machine {
         ensures err { OnErr result (self.new ≡ self.old) }
     {
         match insn {
+            Insn::Arith {
+                op,
+                w,
+                dst: Place::Reg(Reg::R(dst)),
+                src: Operand::Imm(value),
+            } => self.arith(op, w, dst, value, next),
             Insn::Mov {
                 w,
                 dst: Place::Reg(Reg::R(dst)),
@@ -146,11 +157,39 @@ impl Machine {
                 self.cpu.regs[dst as usize] = written(w, old, value);
                 self.cpu.rip = next;
             }
+            Insn::Jcc { cond, target } => self.branch(cond, target, next),
             Insn::Jmp { target } => self.cpu.rip = target,
             Insn::Syscall => return self.call(alloc, next),
             Insn::Ud2 => self.end = Some(End::Illegal(self.cpu.rip)),
         }
         Ok(())
+    }
+
+    // An operation on a register and a number, before `next`.
+    #[tactic(auto, unfolding(crate::specs::Effect::carry, crate::specs::Effect::read_words))]
+    fn arith(&mut self, op: ArithOp, w: Width, dst: u8, value: u64, next: u64)
+        requires { dst < 16 }
+        ensures { self.new ≡ perform_of (insn.Arith op w (place.Reg (R dst)) (Imm value)) next self.old }
+    {
+        let old = self.cpu.regs[dst as usize];
+        let (value, flags) = arith(op, w, old, value, self.cpu.flags);
+        if writes(op) {
+            self.cpu.regs[dst as usize] = written(w, old, value);
+        }
+        self.cpu.flags = flags;
+        self.cpu.rip = next;
+    }
+
+    // A conditional jump before `next`.
+    #[tactic(auto, unfolding(crate::specs::Effect::carry, crate::specs::Effect::read_words))]
+    fn branch(&mut self, cond: Cond, target: u64, next: u64)
+        ensures { self.new ≡ perform_of (insn.Jcc cond target) next self.old }
+    {
+        self.cpu.rip = if holds(cond, self.cpu.flags) {
+            target
+        } else {
+            next
+        };
     }
 
     // A system call before `next`.
@@ -168,6 +207,13 @@ impl Machine {
         }
         Ok(())
     }
+}
+
+// Whether an operation writes its value.
+fn writes(op: ArithOp) -> bool
+    ensures { result ≡ is_written op }
+{
+    !matches!(op, ArithOp::Cmp)
 }
 
 // A register after a value is written to it at a width.

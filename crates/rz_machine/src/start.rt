@@ -1,15 +1,15 @@
 //! The opening state of a file on an input.
 
-ghost use Rattle.std.specs.Prelude.{◌≡◌, ◌≤◌, ◌<◌, ◌+◌, ◌-◌, ◌^◌, ◌++◌, length, take, drop, map, IfOk};
+ghost use Rattle.std.specs.Prelude.{◌≡◌, ◌≤◌, ◌<◌, ◌+◌, ◌-◌, ◌++◌, length, map, IfOk};
 ghost use Rattle.rz_machine.specs.Memory.{zeros};
 ghost use Rattle.rz_machine.specs.Start.{IsEmptyInput, empty_input, start as start_of, first_regs, heap_region, stack_region};
 ghost use Rattle.rz_machine.specs.Loaded.{IsLoad, IsLoadable, loaded, loaded_region};
 
 use crate::elf::{Elf, Load};
-use crate::flags::Flags;
 use crate::machine::{Cpu, Machine};
 use crate::memory::{Memory, Perm, Region};
 use crate::sys::{Events, Input, Replies, World};
+use rz_flags::Flags;
 use rz_num::{Bytes, OutOfMemory};
 use std::alloc::Global;
 

@@ -174,10 +174,10 @@ impl Record {
     }
 }
 
-/// Why a run wasn't traced to its limit.
+/// Why a run wasn't traced to its limit. `LeftCode` has the address that the run came to, where no instruction of the
+/// file is spelled.
 #[derive(Debug, Drop, Error)]
 pub enum TraceRefusal {
-    /// The run came to this address, where no instruction of the file is spelled.
     #[error("left code {0}")]
     LeftCode(u64),
     #[error("out of memory")]
