@@ -1,7 +1,7 @@
 -- From the causes of all answers to the one that comes.
 use Rattle.std.proofs.Common.{◌≡◌, ◌≢◌, ℕ, inl, inr, ⊎_elim, List, [], refl, sym, ap, ap₂, ◌∙◌, subst}
 use Rattle.std.specs.Prelude.{Option, Some, None}
-use Rattle.rz_machine.specs.declared.elf.ElfFault.TheVariants as fault
+use Rattle.rz_elf.specs.declared.fault.ElfFault.TheVariants as fault
 use Rattle.rz_machine.specs.First.{decode_first}
 use Rattle.rz_machine.specs.LeftCode.{left_at, LeavesCode, StaysInCode}
 use Rattle.rz_machine.specs.State.{after}

@@ -2,15 +2,16 @@
 use Rattle.std.proofs.Common.{◌≡◌, ℕ, suc, ◌<◌, List, [], ◌∷◌, length, sym, ap, ap₂, ◌∙◌, subst, None}
 use Rattle.std.specs.Prelude.{slice_index}
 use Rattle.std.specs.List.{AllByRecursion}
-use Rattle.rz_machine.specs.declared.elf.Elf.{Elf}
+use Rattle.rz_elf.specs.declared.elf.Elf.{Elf}
 use Rattle.rz_machine.specs.declared.machine.Machine.{Machine}
 use Rattle.rz_machine.specs.declared.sys.Input.{Input}
 use Rattle.rz_machine.specs.declared.trace.Record.{Record}
-use Rattle.rz_machine.specs.Memory.{Regions, NoSelfWritten}
-use Rattle.rz_machine.specs.Elf.{fault_of, image_of, Image}
+use Rattle.rz_image.specs.Memory.{Regions, NoSelfWritten}
+use Rattle.rz_elf.specs.Elf.{fault_of, image_of, Image}
 use Rattle.rz_machine.specs.Insn.{Decoder}
 use Rattle.rz_machine.specs.First.{decode_first}
-use Rattle.rz_machine.specs.Loaded.{IsLoadable, loaded, thin_elf}
+use Rattle.rz_elf.specs.Loaded.{IsLoadable, loaded}
+use Rattle.rz_machine.specs.ThinElf.{thin_elf}
 use Rattle.rz_machine.specs.Thin.{IsThin}
 use Rattle.rz_machine.specs.Start.{start, empty_input}
 use Rattle.rz_machine.specs.Begun.{recorded}
@@ -20,10 +21,10 @@ use Rattle.rz_machine.specs.Traced.{with_run}
 use Rattle.rz_machine.specs.WrittenFile.{Inert}
 use Rattle.rz_machine.specs.Keeps.{Keeps}
 use Rattle.rz_machine.specs.Added.{added}
-use Rattle.rz_machine.specs.PlainImage.{IsPlainRegion, IsPlainImage}
+use Rattle.rz_elf.specs.PlainImage.{IsPlainRegion, IsPlainImage}
 use Rattle.rz_machine.proofs.AddedLaws.{sites-first, site_edges-first}
-use Rattle.rz_machine.proofs.Cells.{IsFixed, all_map, none_self_written}
-use Rattle.rz_machine.proofs.PlainAccepted.{accepted_plain}
+use Rattle.rz_image.proofs.Cells.{IsFixed, all_map, none_self_written}
+use Rattle.rz_elf.proofs.PlainAccepted.{accepted_plain}
 use Rattle.rz_core.specs.Texts.{report_text}
 use Rattle.rz_core.specs.Debloated.{traced, kept_of, IsDebloated, report_of}
 use Rattle.rz_core.specs.Making.{IsOfThin}

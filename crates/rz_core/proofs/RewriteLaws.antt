@@ -1,21 +1,22 @@
 -- The new file of a thin file.
 use Rattle.std.proofs.Common.{◌≡◌, ℕ, ◌+◌, ◌≤◌, List, length, sym, ap, ◌∙◌, subst, arith}
-use Rattle.rz_machine.specs.declared.elf.Elf.{Elf}
+use Rattle.rz_elf.specs.declared.elf.Elf.{Elf}
 use Rattle.rz_machine.specs.declared.elf_write.Parts.{Parts}
 use Rattle.rz_machine.specs.declared.trace.Record.{Record}
-use Rattle.rz_machine.specs.Elf.{image_of}
+use Rattle.rz_elf.specs.Elf.{image_of}
 use Rattle.rz_machine.specs.First.{decode_first}
 use Rattle.rz_machine.specs.TableLaws.{AreBytes}
 use Rattle.rz_machine.specs.Added.{Added, added}
 use Rattle.rz_machine.specs.Keeps.{Keeps}
-use Rattle.rz_machine.specs.Loaded.{loaded, thin_elf}
-use Rattle.rz_machine.specs.PlainImage.{IsPlainImage}
+use Rattle.rz_elf.specs.Loaded.{loaded}
+use Rattle.rz_machine.specs.ThinElf.{thin_elf}
+use Rattle.rz_elf.specs.PlainImage.{IsPlainImage}
 use Rattle.rz_machine.specs.Rewritable.{IsRewritable}
 use Rattle.rz_machine.specs.Rewritten.{HasRoom, IsRewritten}
 use Rattle.rz_machine.specs.Thin.{IsThin, thin_base}
 use Rattle.rz_machine.specs.WrittenFile.{written_file, Inert}
 use Rattle.rz_machine.proofs.AddedLaws.{added-thin}
-use Rattle.rz_machine.proofs.PlainAccepted.{accepted_plain}
+use Rattle.rz_elf.proofs.PlainAccepted.{accepted_plain}
 use Rattle.rz_machine.proofs.RewrittenLaws.{lie}
 use Rattle.rz_machine.proofs.ThinKept.{thin_room, thin_kept}
 use Rattle.rz_machine.proofs.ThinLoads.{thin_fault, loaded-thin_elf}

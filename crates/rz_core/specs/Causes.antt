@@ -3,7 +3,7 @@ use Rattle.std.specs.Prelude.{◌≡◌, ◌≢◌, ◌⊎◌, ℕ, Bool, IsTrue
 use Rattle.rz_outside.specs.Counts.{Rose}
 use Rattle.rz_outside.specs.StoreAnswers.{Files, SameFiles, SameOthers, IsMissing}
 use Rattle.rz_outside.specs.SinkAnswers.{appended}
-use Rattle.rz_machine.specs.declared.elf.ElfFault.TheVariants as fault
+use Rattle.rz_elf.specs.declared.fault.ElfFault.TheVariants as fault
 use Rattle.rz_machine.specs.First.{decode_first}
 use Rattle.rz_machine.specs.LeftCode.{LeavesCode}
 use Rattle.rz_machine.specs.Thin.{IsThin}

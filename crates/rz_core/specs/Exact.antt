@@ -1,7 +1,7 @@
 -- Which answer comes where the files are told and nothing outside fails, want of memory aside.
 use Rattle.std.specs.Prelude.{◌≡◌, ◌≢◌, ◌⊎◌, ℕ, IsTrue, List, [], Option, Some, None}
 use Rattle.rz_outside.specs.Counts.{Rose}
-use Rattle.rz_machine.specs.declared.elf.ElfFault.TheVariants as fault
+use Rattle.rz_elf.specs.declared.fault.ElfFault.TheVariants as fault
 use Rattle.rz_machine.specs.First.{decode_first}
 use Rattle.rz_machine.specs.LeftCode.{LeavesCode, StaysInCode}
 use Rattle.rz_machine.specs.Thin.{IsThin}

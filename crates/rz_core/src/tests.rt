@@ -1,14 +1,14 @@
 // Worked command lines, over stores and sinks in memory.
 
 ghost use Rattle.std.specs.Prelude.{◌≡◌, ◌≤◌, IfOk};
-ghost use Rattle.rz_machine.specs.Loaded.{IsLoadable};
+ghost use Rattle.rz_elf.specs.Loaded.{IsLoadable};
 
 use crate::status::number;
 use crate::tool::run_tool;
-use rz_machine::elf::{Elf, Load, Loads};
+use rz_elf::elf::{Elf, Load, Loads};
 use rz_machine::first::First;
 use rz_machine::machine::{End, Machine};
-use rz_machine::memory::Perm;
+use rz_image::perm::Perm;
 use rz_machine::start::start;
 use rz_machine::sys::Input;
 use rz_machine::thin::read_thin;

@@ -4,7 +4,7 @@ ghost use Rattle.std.specs.Prelude.{◌≡◌, string_bytes, IfOk};
 ghost use Rattle.rz_core.specs.Texts.{report_text, fault_text as text_of_fault, refusal_text as text_of_refusal};
 
 use crate::status::{Status, Target};
-use rz_machine::elf::ElfFault;
+use rz_elf::fault::ElfFault;
 use std::alloc::{AllocError, Global};
 
 /// The report of a debloating.

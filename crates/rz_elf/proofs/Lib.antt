@@ -3,5 +3,6 @@ pub mod Conditions
 pub mod HeaderList
 pub mod Loads
 pub mod PlainAccepted
+pub mod PlainCells
 pub mod Reading
 pub mod Sound

@@ -86,6 +86,14 @@ loadable elf is = subst IsLoadable (sym is.read) of_bytes
         let e = first_break_of elf.bytes in
         record { loads = all_loads (length elf.bytes) (filter is_load_header (placed elf.bytes)) ls; heap = omega (arith, low, e) }
 
+-- the first break of an accepted file is low
+pub low_break : (elf : ElfFile) → IsRead elf → elf.first_break ≤ 0x70000000
+low_break elf is =
+    let ps = filter is_load_header (placed elf.bytes) in
+    let low = highest_low ps (low_loads (length elf.bytes) ps (accepted_loads elf.bytes is.accepted)) in
+    let e : elf.first_break ≡ page_up (highest_end (map (λ (p : Placed). p.segment) ps)) = ap (λ (y : ElfFile). y.first_break) is.read ∙ sym (first_break_of elf.bytes) in
+    omega (arith, low, e)
+
 -- what it loads is the image of its bytes
 pub loaded_image : (elf : ElfFile) → IsRead elf → loaded elf ≡ image_of elf.bytes
 loaded_image elf is = ap loaded is.read ∙ loaded-elf_of elf.bytes

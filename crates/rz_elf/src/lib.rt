@@ -5,11 +5,11 @@ pub mod code;
 pub mod elf;
 pub mod fault;
 mod file_faults;
-mod header;
+pub mod header;
 mod header_faults;
 pub mod law;
 mod load_faults;
-mod placed;
+pub mod placed;
 pub mod read;
 pub mod segment;
 #[cfg(test)]

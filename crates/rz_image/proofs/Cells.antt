@@ -24,7 +24,7 @@ pub inside : (r : Region) (a : ℕ) → r.base ≤ a → a < r.base + length r.b
 inside r a h k = ap₂ ◌&&◌ (le-leb r.base a h) (lt-ltb a (r.base + length r.bytes) k)
 
 -- a property of cells that each region has is one of all cells
-cells : (P : ℕ → Cell → Type 0) → ((a : ℕ) → P a no_cell) → (m : Regions) → AllByRecursion (λ r. (a : ℕ) → contains r a ≡ true → P a (cell_in r (a - r.base))) m → (a : ℕ) → P a (cell_at m a)
+pub cells : (P : ℕ → Cell → Type 0) → ((a : ℕ) → P a no_cell) → (m : Regions) → AllByRecursion (λ r. (a : ℕ) → contains r a ≡ true → P a (cell_in r (a - r.base))) m → (a : ℕ) → P a (cell_at m a)
 unfolding cell_at
 cells P none [] h a = none a
 cells P none (r ∷ rs) h a = go (contains r a) refl (cells P none rs h.1 a)
@@ -56,7 +56,7 @@ none_self_written m h = record { at = cells P (λ a w. refl) m (all_map IsFixed 
         ap (λ b. nat_lt k r.opened && b) (f parts.1) ∙ and_false (nat_lt k r.opened)
 
 -- a byte among bytes, or zero past them
-get_byte : (bs : List ℕ) (k : ℕ) → AllByRecursion (λ b. b < 256) bs → get_or bs k 0 < 256
+pub get_byte : (bs : List ℕ) (k : ℕ) → AllByRecursion (λ b. b < 256) bs → get_or bs k 0 < 256
 get_byte [] k h = omega arith
 get_byte (b ∷ bs) zero h = h.0
 get_byte (b ∷ bs) (suc k) h = get_byte bs k h.1

@@ -1,5 +1,5 @@
 -- Permissions: the bits PF_X, PF_W and PF_R of `p_flags` (System V gABI, chapter 5, "Segment Permissions").
-use Rattle.std.specs.Prelude.{ℕ, ◌*◌, ◌/◌, ◌%◌, Bool, ◌==◌}
+use Rattle.std.specs.Prelude.{ℕ, ◌/◌, ◌%◌, Bool, ◌==◌}
 use Rattle.rz_image.specs.declared.perm.Perm.{Perm}
 
 -- whether flags have the bit of this worth
@@ -28,7 +28,3 @@ read_execute = perm_of 5
 
 abbrev pub read_write : Perm
 read_write = perm_of 6
-
--- the same permissions but for that to execute
-abbrev pub without_execute : Perm → Perm
-without_execute p = record { 0 = p.0 / 2 * 2 }

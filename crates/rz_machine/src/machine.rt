@@ -7,7 +7,7 @@ ghost use Rattle.rz_machine.specs.TableLaws.{AreBytes};
 use crate::call::syscall;
 use crate::decode::Decoded;
 use crate::insn::{Insn, Operand, Place, Reg};
-use crate::memory::Memory;
+use rz_image::memory::Memory;
 use crate::sys::World;
 use crate::table::InsnTable;
 use rz_alu::arith;

@@ -1,9 +1,9 @@
 use Rattle.std.proofs.Common.{◌≡◌, ◌⊎◌, ⊎_elim, sym, ap, ◌∙◌, Some, Err}
-use Rattle.rz_machine.specs.declared.elf.ElfFault.{ElfFault}
-use Rattle.rz_machine.specs.declared.elf.ElfFault.TheVariants as fault
-use Rattle.rz_machine.specs.declared.elf.ElfError.{ElfError}
-use Rattle.rz_machine.specs.declared.elf.ElfError.TheVariants as error
-use Rattle.rz_machine.specs.declared.elf.Elf.{Elf}
+use Rattle.rz_elf.specs.declared.fault.ElfFault.{ElfFault}
+use Rattle.rz_elf.specs.declared.fault.ElfFault.TheVariants as fault
+use Rattle.rz_elf.specs.declared.fault.ElfError.{ElfError}
+use Rattle.rz_elf.specs.declared.fault.ElfError.TheVariants as error
+use Rattle.rz_elf.specs.declared.elf.Elf.{Elf}
 use Rattle.rz_core.proofs.ReadLaws.{thin_whole, not_thin_whole}
 use Rattle.rz_core.proofs.MadeLaws.{of_thin}
 use Rattle.rz_core.proofs.debloat.read_executable.Goals as goal

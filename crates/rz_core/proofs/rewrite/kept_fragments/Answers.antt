@@ -1,7 +1,7 @@
 use Rattle.std.proofs.Common.{[], ◌^◌, ◌<◌, map, subst, sym, append-nil}
 use Rattle.std.specs.List.{All}
-use Rattle.rz_machine.specs.Memory.{RegionsFit}
-use Rattle.rz_machine.specs.Loaded.{loaded, loaded_region}
+use Rattle.rz_image.specs.Memory.{RegionsFit}
+use Rattle.rz_elf.specs.Loaded.{loaded, loaded_region}
 use Rattle.rz_core.proofs.NewPartsLaws.{nodes_low}
 use Rattle.rz_machine.proofs.Loads.{loads_fit}
 use Rattle.rz_core.proofs.rewrite.kept_fragments.Goals as goal

@@ -1,5 +1,5 @@
 use Rattle.std.proofs.Common.{◌∙◌, arith}
-use Rattle.rz_machine.specs.Loaded.{loaded}
+use Rattle.rz_elf.specs.Loaded.{loaded}
 use Rattle.rz_core.proofs.NewPartsLaws.{fits, AreEmitted, parts_are, begins_is, are_rewritten}
 use Rattle.rz_core.proofs.rewrite.new_parts.Goals as goal
 
