@@ -10,7 +10,7 @@ use Rattle.rz_image.specs.Memory.{Regions, NoSelfWritten}
 use Rattle.rz_elf.specs.Elf.{fault_of, image_of, Image}
 use Rattle.rz_machine.specs.Insn.{Decoder}
 use Rattle.rz_machine.specs.First.{decode_first}
-use Rattle.rz_elf.specs.Loaded.{IsLoadable, loaded}
+use Rattle.rz_elf.specs.Loaded.{loaded}
 use Rattle.rz_machine.specs.ThinElf.{thin_elf}
 use Rattle.rz_machine.specs.Thin.{IsThin}
 use Rattle.rz_machine.specs.Start.{start, empty_input}
@@ -35,13 +35,12 @@ each_byte [] h = tt
 each_byte (x ∷ xs) h = (h 0, each_byte xs (λ i. h (suc i)))
 
 -- what is read of a thin file
-pub of_thin : (x : List ℕ) (elf : Elf) → elf ≡ thin_elf x → IsThin x → fault_of x ≡ None → IsLoadable elf → loaded elf ≡ image_of x → ((i : ℕ) → slice_index x i < 256) → IsOfThin elf
-of_thin x elf e thin accepted loadable image bytes =
+pub of_thin : (x : List ℕ) (elf : Elf) → elf ≡ thin_elf x → IsThin x → fault_of x ≡ None → loaded elf ≡ image_of x → ((i : ℕ) → slice_index x i < 256) → IsOfThin elf
+of_thin x elf e thin accepted image bytes =
     let b : elf.bytes ≡ x = ap (λ (f : Elf). f.bytes) e in
     record {
       thin = subst IsThin (sym b) thin;
       accepted = ap fault_of b ∙ accepted;
-      loadable = loadable;
       read = e ∙ ap thin_elf (sym b);
       image = image ∙ ap image_of (sym b);
       bytes_fit = subst (AllByRecursion (λ c. c < 256)) (sym b) (each_byte x bytes);

@@ -17,13 +17,14 @@ use Rattle.rz_machine.specs.Thin.{IsThin, thin_base}
 use Rattle.rz_machine.specs.WrittenFile.{written_file, Inert}
 use Rattle.rz_machine.proofs.AddedLaws.{added-thin}
 use Rattle.rz_elf.proofs.PlainAccepted.{accepted_plain}
+use Rattle.rz_elf.proofs.Reading.{loaded-elf_of}
 use Rattle.rz_machine.proofs.RewrittenLaws.{lie}
 use Rattle.rz_machine.proofs.ThinKept.{thin_room, thin_kept}
-use Rattle.rz_machine.proofs.ThinLoads.{thin_fault, loaded-thin_elf}
+use Rattle.rz_machine.proofs.ThinLoads.{thin_fault, elf_of-thin}
 
 module _ (elf : Elf) (kept : Record) (thin : IsThin elf.bytes) (bytes : AreBytes elf.bytes) (read : elf ≡ thin_elf elf.bytes) (can : IsRewritable decode_first (loaded elf) kept) where
   image : loaded elf ≡ image_of elf.bytes
-  image = ap loaded read ∙ loaded-thin_elf elf.bytes thin
+  image = ap loaded (read ∙ sym (elf_of-thin elf.bytes thin)) ∙ loaded-elf_of elf.bytes
 
   can_image : IsRewritable decode_first (image_of elf.bytes) kept
   can_image = subst (λ i. IsRewritable decode_first i kept) image can

@@ -3,10 +3,11 @@ use Rattle.std.specs.Prelude.{◌≡◌, ◌≢◌, ◌⊎◌, ℕ, Bool, IsTrue
 use Rattle.rz_outside.specs.Counts.{Rose}
 use Rattle.rz_outside.specs.StoreAnswers.{Files, SameFiles, SameOthers, IsMissing}
 use Rattle.rz_outside.specs.SinkAnswers.{appended}
-use Rattle.rz_elf.specs.declared.fault.ElfFault.TheVariants as fault
+use Rattle.rz_elf.specs.Elf.{fault_of, image_of}
 use Rattle.rz_machine.specs.First.{decode_first}
 use Rattle.rz_machine.specs.LeftCode.{LeavesCode}
 use Rattle.rz_machine.specs.Thin.{IsThin}
+use Rattle.rz_machine.specs.ThinFault.{IsThinFault}
 use Rattle.rz_core.specs.declared.status.Status.{Status}
 use Rattle.rz_core.specs.declared.status.Status.TheVariants as status
 use Rattle.rz_core.specs.declared.status.Target.TheVariants as target
@@ -54,7 +55,7 @@ ReadRefusal name s _ = ⊥
 abbrev pub ExecutableRefusal : List ℕ → StoreCalls → Status → Type 0
 ExecutableRefusal name s (status.ReadFault file) = (file ≡ name) × ReadCause s file
 ExecutableRefusal name s (status.Refused file why) =
-    (file ≡ name) × (why ≡ fault.Unbuilt) × (IsTrue s.told → (x : List ℕ) × (s.old name ≡ Some x) × (IsThin x → ⊥))
+    (file ≡ name) × (IsTrue s.told → (x : List ℕ) × (s.old name ≡ Some x) × IsThinFault x why)
 ExecutableRefusal name s status.OutOfMemory = Unit {0}
 ExecutableRefusal name s _ = ⊥
 
@@ -85,7 +86,7 @@ IsNew d s x w = AreRead d s.old x × IsDebloated d.limit x w
 -- when debloating is refused before the write, and how
 abbrev pub PrepareRefusal : Debloat → StoreCalls → Status → Type 0
 PrepareRefusal d s (status.Refused file why) =
-    (file ≡ d.exe) × (why ≡ fault.Unbuilt) × (IsTrue s.told → (x : List ℕ) × (s.old d.exe ≡ Some x) × (IsThin x → ⊥))
+    (file ≡ d.exe) × (IsTrue s.told → (x : List ℕ) × (s.old d.exe ≡ Some x) × IsThinFault x why)
 PrepareRefusal d s (status.BadInput input line) =
     (input ≡ 1) × (line ≡ 1)
     × (IsTrue s.told → ((x : List ℕ) × HoldsThin s.old d.exe x) × ((i : List ℕ) × (s.old d.input ≡ Some i) × (i ≢ [])))

@@ -1,10 +1,11 @@
 -- Which answer comes where the files are told and nothing outside fails, want of memory aside.
 use Rattle.std.specs.Prelude.{◌≡◌, ◌≢◌, ◌⊎◌, ℕ, IsTrue, List, [], Option, Some, None}
 use Rattle.rz_outside.specs.Counts.{Rose}
-use Rattle.rz_elf.specs.declared.fault.ElfFault.TheVariants as fault
+use Rattle.rz_elf.specs.declared.fault.ElfFault.{ElfFault}
+use Rattle.rz_elf.specs.Elf.{fault_of}
 use Rattle.rz_machine.specs.First.{decode_first}
 use Rattle.rz_machine.specs.LeftCode.{LeavesCode, StaysInCode}
-use Rattle.rz_machine.specs.Thin.{IsThin}
+use Rattle.rz_machine.specs.ThinFault.{IsThinFault}
 use Rattle.rz_core.specs.declared.status.Status.{Status}
 use Rattle.rz_core.specs.declared.status.Status.TheVariants as status
 use Rattle.rz_core.specs.Words.{Debloat}
@@ -23,7 +24,7 @@ Gives wanted answer = (answer ≡ wanted) ⊎ (answer ≡ status.OutOfMemory)
 
 -- each refusal comes where its cause holds and no earlier one does, and where none holds the answer is Ok
 pub record IsExact (d : Debloat) (s : StoreCalls) (answer : Status) : Type 0 where
-  pub refused : (x : List ℕ) → s.old d.exe ≡ Some x → (IsThin x → ⊥) → Gives (status.Refused d.exe fault.Unbuilt) answer
+  pub refused : (x : List ℕ) (f : ElfFault) → s.old d.exe ≡ Some x → IsThinFault x f → Gives (status.Refused d.exe f) answer
   pub bad_input : (x i : List ℕ) → HoldsThin s.old d.exe x → s.old d.input ≡ Some i → i ≢ [] → Gives (status.BadInput 1 1) answer
   pub left_code : (x : List ℕ) (a : ℕ) → AreRead d s.old x → LeavesCode decode_first d.limit (traced x) a → Gives (status.LeftCode 1 a) answer
   pub complete : (x : List ℕ) → AreRead d s.old x → StaysInCode decode_first d.limit (traced x) → Gives status.Ok answer

@@ -1,9 +1,9 @@
 -- Cells of plain regions.
-use Rattle.std.proofs.Common.{◌≡◌, ℕ, ◌+◌, ◌-◌, ◌<◌, true, ◌&&◌, nat_lt, nat_le, length, arith, ltb-true}
+use Rattle.std.proofs.Common.{◌≡◌, ℕ, ◌+◌, ◌-◌, ◌<◌, true, nat_lt, nat_le, length, arith, ltb-true}
 use Rattle.std.specs.List.{AllByRecursion}
 use Rattle.std.proofs.lemmas.Bool.{and_parts}
 use Rattle.rz_image.specs.declared.region.Region.{Region}
-use Rattle.rz_image.specs.Memory.{Cell, Regions, no_cell, contains, cell_in, cell_at}
+use Rattle.rz_image.specs.Memory.{Cell, Regions, contains, cell_in, cell_at}
 use Rattle.rz_image.proofs.Cells.{cells, all_map, get_byte}
 use Rattle.rz_elf.specs.PlainImage.{IsPlainRegion}
 

@@ -1,5 +1,5 @@
 -- The written file, byte for byte: a fresh header page, the original, and the added parts.
-use Rattle.std.specs.Prelude.{◌≡◌, ℕ, ◌+◌, ◌-◌, ◌*◌, ◌%◌, ◌<◌, ◌≤◌, ◌||◌, if◌then◌else◌, List, [], ◌∷◌, ◌++◌, length, map, filter, flat_map, min, false, true, None}
+use Rattle.std.specs.Prelude.{◌≡◌, ℕ, ◌+◌, ◌-◌, ◌*◌, ◌%◌, ◌<◌, ◌≤◌, ◌||◌, if◌then◌else◌, List, [], ◌∷◌, ◌++◌, length, map, filter, flat_map, min, None}
 use Rattle.byteorder.specs.Endian.{little_bytes}
 use Rattle.rz_num.specs.Page.{page_up}
 use Rattle.rz_image.specs.Perm.{read_only, read_execute, read_write}

@@ -1,6 +1,6 @@
 use Rattle.std.proofs.Common.{◌≡◌, List, ℕ, Result, Ok, Err, IfOk, length, map, ap, ap₂, sym, subst, ◌∙◌}
 use Rattle.std.specs.List.{AllByRecursion}
-use Rattle.rz_image.specs.Memory.{Regions, Ascend}
+use Rattle.rz_image.specs.Memory.{Ascend}
 use Rattle.rz_elf.specs.declared.elf.Load.{Load}
 use Rattle.rz_elf.specs.Loaded.{ElfFile, IsLoad, loaded, loaded_region}
 use Rattle.rz_elf.proofs.Loads.{loadable, ascend_loads}

@@ -1,4 +1,4 @@
-use Rattle.std.proofs.Common.{◌≡◌, List, ℕ, inl, inr, refl, ap, sym, subst, ◌∙◌}
+use Rattle.std.proofs.Common.{◌≡◌, ap, subst, ◌∙◌}
 use Rattle.rz_elf.specs.Loaded.{ElfFile}
 use Rattle.rz_machine.specs.Thin.{IsThin}
 use Rattle.rz_machine.proofs.ThinLoads.{elf_of-thin}
