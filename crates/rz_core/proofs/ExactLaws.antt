@@ -12,24 +12,24 @@ use Rattle.rz_machine.proofs.ThinLoads.{thin_fault}
 use Rattle.rz_core.specs.declared.status.Status.{Status}
 use Rattle.rz_core.specs.declared.status.Status.TheVariants as status
 use Rattle.rz_core.specs.declared.status.Target.TheVariants as target
-use Rattle.rz_core.specs.Words.{Debloat}
+use Rattle.rz_core.specs.Words.{Debloat, Debloating}
 use Rattle.rz_core.specs.Debloated.{traced}
 use Rattle.rz_core.specs.Causes.{StoreCalls, SinkCalls, HoldsThin, AreRead, ReadCause, IsReadName, CauseOf}
 use Rattle.rz_core.specs.Headline.{Headline}
 use Rattle.rz_core.specs.Exact.{IsQuiet, Gives, AnswersExactly}
 
 -- a name holds one content
-one_content : (o : Option (List ℕ)) (x y : List ℕ) → o ≡ Some x → o ≡ Some y → x ≡ y
+pub one_content : (o : Option (List ℕ)) (x y : List ℕ) → o ≡ Some x → o ≡ Some y → x ≡ y
 one_content o x y e f = let g : Some x ≡ Some y = sym e ∙ f in cc
 
 thin_again : (d : Debloat) (s : StoreCalls) (x y : List ℕ) → s.old d.exe ≡ Some x → HoldsThin s.old d.exe y → IsThin x
 thin_again d s x y e h = subst IsThin (one_content (s.old d.exe) y x h.there e) h.thin
 
-is_there : (o : Option (List ℕ)) (x : List ℕ) → o ≡ Some x → o ≡ None → ⊥
+pub is_there : (o : Option (List ℕ)) (x : List ℕ) → o ≡ Some x → o ≡ None → ⊥
 is_there o x e f = let g : Some x ≡ None = sym e ∙ f in cc
 
 -- where nothing fails, a read is refused for a missing name alone
-missing : (s : StoreCalls) (k : SinkCalls) (file : List ℕ) → IsQuiet s k → ReadCause s file → s.old file ≡ None
+pub missing : (s : StoreCalls) (k : SinkCalls) (file : List ℕ) → IsQuiet s k → ReadCause s file → s.old file ≡ None
 missing s k file quiet cause = ⊎_elim (λ r. absurd (quiet.store r.0)) (λ m. m.1) cause
 
 -- a read fault where the executable and the input are there
@@ -128,7 +128,7 @@ complete d s k x q read stays (status.WriteFault target.File) h = absurd (q.stor
 complete d s k x q read stays status.OutOfMemory h = inr refl
 complete d s k x q read stays status.Usage h = absurd h
 
-pub answers_exactly : (d : Debloat) (s : StoreCalls) (k : SinkCalls) (answer : Status) → CauseOf d s k answer → AnswersExactly (Some d) s k answer
+pub answers_exactly : (d : Debloat) (s : StoreCalls) (k : SinkCalls) (answer : Status) → CauseOf d s k answer → AnswersExactly (Some (Debloating d)) s k answer
 answers_exactly d s k answer h quiet =
     record {
       refused = λ x f e why. refused d s k x f quiet e why answer h;
@@ -138,7 +138,7 @@ answers_exactly d s k answer h quiet =
     }
 
 -- the headline, from the cause of Ok
-pub headline : (d : Debloat) (s : StoreCalls) (k : SinkCalls) (answer : Status) → CauseOf d s k answer → Headline (Some d) s answer
+pub headline : (d : Debloat) (s : StoreCalls) (k : SinkCalls) (answer : Status) → CauseOf d s k answer → Headline (Some (Debloating d)) s answer
 headline d s k status.Ok h = λ told.
     let done = h told in
     let new = done.new in

@@ -8,9 +8,9 @@ use Rattle.rz_machine.specs.LeftCode.{LeavesCode, StaysInCode}
 use Rattle.rz_machine.specs.ThinFault.{IsThinFault}
 use Rattle.rz_core.specs.declared.status.Status.{Status}
 use Rattle.rz_core.specs.declared.status.Status.TheVariants as status
-use Rattle.rz_core.specs.Words.{Debloat}
+use Rattle.rz_core.specs.Words.{Debloat, Check, Form, Debloating, Checking}
 use Rattle.rz_core.specs.Debloated.{traced}
-use Rattle.rz_core.specs.Causes.{StoreCalls, SinkCalls, HoldsThin, AreRead}
+use Rattle.rz_core.specs.Causes.{StoreCalls, SinkCalls, HoldsThin, AreRead, IsAccepted}
 
 -- the store tells its files, and neither count rose
 pub record IsQuiet (s : StoreCalls) (k : SinkCalls) : Type 0 where
@@ -29,7 +29,13 @@ pub record IsExact (d : Debloat) (s : StoreCalls) (answer : Status) : Type 0 whe
   pub left_code : (x : List ℕ) (a : ℕ) → AreRead d s.old x → LeavesCode decode_first d.limit (traced x) a → Gives (status.LeftCode 1 a) answer
   pub complete : (x : List ℕ) → AreRead d s.old x → StaysInCode decode_first d.limit (traced x) → Gives status.Ok answer
 
+-- `check` refuses a file with its fault, and accepts every other
+pub record IsCheckExact (c : Check) (s : StoreCalls) (answer : Status) : Type 0 where
+  pub refused : (x : List ℕ) (f : ElfFault) → s.old c.exe ≡ Some x → fault_of x ≡ Some f → Gives (status.Refused c.exe f) answer
+  pub complete : (x : List ℕ) → IsAccepted c s.old x → Gives status.Ok answer
+
 -- where nothing outside fails the answer is exact; words that are no form are refused in any case
-abbrev pub AnswersExactly : Option Debloat → StoreCalls → SinkCalls → Status → Type 0
+abbrev pub AnswersExactly : Option Form → StoreCalls → SinkCalls → Status → Type 0
 AnswersExactly None s k answer = Gives status.Usage answer
-AnswersExactly (Some d) s k answer = IsQuiet s k → IsExact d s answer
+AnswersExactly (Some (Debloating d)) s k answer = IsQuiet s k → IsExact d s answer
+AnswersExactly (Some (Checking c)) s k answer = IsQuiet s k → IsCheckExact c s answer

@@ -20,6 +20,11 @@ report_text added edges instructions site_edges sites =
     ++ (codes ",\"site_edges\":" ++ (decimal site_edges
     ++ (codes ",\"sites\":" ++ (decimal sites ++ codes "}\n")))))))))
 
+-- what is said of an accepted file: how many loads it has, its entry and its first break
+abbrev pub check_text : ℕ → ℕ → ℕ → List ℕ
+check_text loads entry first_break =
+    codes "ok loads " ++ (decimal loads ++ (codes " entry " ++ (hex_text entry ++ (codes " break " ++ (hex_text first_break ++ codes "\n")))))
+
 abbrev numbered : List ℕ → ℕ → List ℕ
 numbered name i = name ++ (32 ∷ decimal i)
 

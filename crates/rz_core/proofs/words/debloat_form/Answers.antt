@@ -1,7 +1,7 @@
 use Rattle.std.proofs.Common.{◌≡◌, sym, ap, ◌∙◌, arith, min, ◌^◌, ◌-◌, length}
 use Rattle.rz_core.specs.Words.{digits_value}
 use Rattle.rz_core.proofs.FormLaws.{seven, form_is}
-use Rattle.rz_core.proofs.words.form.Goals as goal
+use Rattle.rz_core.proofs.words.debloat_form.Goals as goal
 
 pub returns-in-len7-clause-form : goal.returns-in-len7-clause-form
 returns-in-len7-clause-form c =
