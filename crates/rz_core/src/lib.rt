@@ -3,6 +3,8 @@
 
 pub mod added;
 mod check;
+#[cfg(test)]
+mod check_tests;
 mod debloat;
 pub mod emit;
 pub mod fragment;

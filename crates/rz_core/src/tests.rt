@@ -24,7 +24,7 @@ const HEADERS: [u8; 120] = [
 ];
 
 // Writes `hi` and a line's end, and exits.
-const GREETING: [u8; 37] = [
+pub const GREETING: [u8; 37] = [
     0xb8, 1, 0, 0, 0, 0xbf, 1, 0, 0, 0, 0xbe, 0x22, 0x10, 0x40, 0, 0xba, 3, 0, 0, 0, 0x0f, 0x05,
     0xbf, 0, 0, 0, 0, 0xb8, 0x3c, 0, 0, 0, 0x0f, 0x05, b'h', b'i', b'\n',
 ];
@@ -33,7 +33,7 @@ const REPORT: &[u8] =
     b"{\"added\":\"0x3fd000\",\"edges\":7,\"instructions\":8,\"site_edges\":0,\"sites\":0}\n";
 
 // The thin file of a code.
-fn thin(alloc: Global, code: &[u8]) -> Result<Bytes, OutOfMemory> {
+pub fn thin(alloc: Global, code: &[u8]) -> Result<Bytes, OutOfMemory> {
     let mut headers = HEADERS;
     put_u64(&mut headers, 96, code.len() as u64);
     put_u64(&mut headers, 104, code.len() as u64);
@@ -61,7 +61,7 @@ fn files(alloc: Global, e: Bytes, i: &[u8]) -> Result<Vec<(Text, Bytes)>, OutOfM
 }
 
 // The status and the text for a line of words, where the listed calls of the store fail; and what `w` holds.
-fn answer(
+pub fn answer(
     rt: &impl Abort,
     alloc: Global,
     line: &str,
@@ -192,7 +192,7 @@ fn refusals_name_their_cause(rt: HostRuntime) -> Result<(), Fail> {
         Vec::new(alloc),
     )?;
     assert_eq!(rt; status, 2);
-    assert_eq!(rt; text.as_slice(), b"refused e Unbuilt\n".as_slice());
+    assert_eq!(rt; text.as_slice(), b"refused e Short\n".as_slice());
     let e = thin(alloc, &GREETING)?;
     let (status, text, _) = answer(
         &rt,
@@ -225,7 +225,8 @@ fn words_of_no_form(rt: HostRuntime) -> Result<(), Fail> {
         "",
         "debloat e - exact 0 w i",
         "debloat e - Exact 1 w i",
-        "check e",
+        "check",
+        "check e i",
     ] {
         let (status, text, _) = answer(&rt, alloc, line, Bytes::new(alloc), &[], Vec::new(alloc))?;
         assert_eq!(rt; status, 1);

@@ -24,12 +24,7 @@ pub fn report(
 }
 
 /// What is said of an accepted file.
-pub fn check(
-    alloc: Global,
-    loads: u64,
-    entry: u64,
-    first_break: u64,
-) -> Result<String, AllocError>
+pub fn check(alloc: Global, loads: u64, entry: u64, first_break: u64) -> Result<String, AllocError>
     ensures { IfOk result (λ s. string_bytes s ≡ check_text loads entry first_break) }
 {
     format!(in alloc; "ok loads {loads} entry 0x{entry:x} break 0x{first_break:x}\n")

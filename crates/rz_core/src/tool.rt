@@ -71,12 +71,7 @@ fn run_debloat<S: Store, K: Sink>(
 }
 
 // The command `check`, up to its text.
-fn run_check<S: Store, K: Sink>(
-    alloc: Global,
-    c: &Check<'_>,
-    store: &mut S,
-    out: &mut K,
-) -> Status
+fn run_check<S: Store, K: Sink>(alloc: Global, c: &Check<'_>, store: &mut S, out: &mut K) -> Status
     ensures telling { S.told store.new ≡ S.told store.old }
     ensures store_count { S.faults store.old ≤ S.faults store.new }
     ensures sink_count { K.faults out.old ≤ K.faults out.new }

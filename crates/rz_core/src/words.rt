@@ -3,7 +3,6 @@
 ghost use Rattle.std.specs.Prelude.{◌≡◌, ◌≤◌, ◌-◌, ◌*◌, ◌^◌, ◌<◌, ◌&&◌, MatchOption, IfSome, min, Some, None};
 ghost use Rattle.std.specs.List.{list_all};
 ghost use Rattle.rz_core.specs.Words.{form_of, debloat_of, check_of, is_check as is_check_of, is_digit as is_digit_of, is_number as is_number_of, digits_value, is_limit as is_limit_of, is_name as is_name_of, is_debloat as is_debloat_of};
-
 ghost use Rattle.rz_core.specs.Commands.{words_of, check_words_of, form_words_of, HasSteps};
 
 use rz_num::Text;

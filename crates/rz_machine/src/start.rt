@@ -6,13 +6,13 @@ ghost use Rattle.rz_image.specs.Memory.{Ascend, zeros};
 ghost use Rattle.rz_machine.specs.Start.{IsEmptyInput, empty_input, start as start_of, first_regs, heap_region, stack_region};
 ghost use Rattle.rz_elf.specs.Loaded.{IsLoad, loaded, loaded_region};
 
-use rz_elf::elf::{Elf, Load};
 use crate::machine::{Cpu, Machine};
+use crate::sys::{Events, Input, Replies, World};
+use rz_elf::elf::{Elf, Load};
+use rz_flags::Flags;
 use rz_image::memory::Memory;
 use rz_image::perm::Perm;
 use rz_image::region::Region;
-use crate::sys::{Events, Input, Replies, World};
-use rz_flags::Flags;
 use rz_num::{Bytes, OutOfMemory};
 use std::alloc::Global;
 

@@ -12,11 +12,11 @@ ghost use Rattle.rz_image.specs.Memory.{NoSelfWritten};
 ghost use Rattle.rz_machine.specs.Start.{start as start_of, IsEmptyInput};
 ghost use Rattle.rz_elf.specs.Loaded.{loaded};
 
-use rz_elf::elf::Elf;
 use crate::machine::{End, Machine};
 use crate::start::start;
 use crate::sys::Input;
 use crate::table::InsnTable;
+use rz_elf::elf::Elf;
 use rz_num::{OutOfMemory, Pairs, Words};
 use std::alloc::Global;
 use std::collections::BTreeSet;
