@@ -14,3 +14,4 @@ pub mod Parts
 pub mod Whole
 pub mod Choice
 pub mod Served
+pub mod Untaken
