@@ -1,4 +1,4 @@
-use Rattle.std.proofs.Common.{ℕ, ◌≡◌, ◌+◌, ◌≤◌, ◌/◌, ◌%◌, ◌==◌, ◌⊎◌, List, [], ◌∷◌, ◌++◌, Option, Some, None, refl, ap, sym, ◌∙◌, subst, arith, length, Bool, true, false, ◌&&◌, inl, inr, zero, suc, append_assoc, length-append}
+use Rattle.std.proofs.Common.{ℕ, ◌≡◌, ◌+◌, ◌≤◌, ◌<◌, ◌/◌, ◌%◌, ◌==◌, ◌⊎◌, List, [], ◌∷◌, ◌++◌, Option, Some, None, refl, ap, sym, ◌∙◌, subst, arith, length, Bool, true, false, not, ◌&&◌, ◌||◌, inl, inr, zero, suc, append_assoc, length-append}
 use Rattle.std.specs.Prelude.{slice_get, nat_le, if◌then◌else◌, cond}
 use Rattle.std.specs.List.{take_while, list_all, list_any}
 use Rattle.std.proofs.lemmas.Bool.{cases_Bool}
@@ -13,10 +13,11 @@ use Rattle.rz_isa.specs.declared.rows.F3Rule.TheVariants as f3s
 use Rattle.rz_isa.specs.declared.rows.Row.{Row}
 use Rattle.rz_isa.specs.Spelling.{Parts, SpelledBy, bytes_of, is_prefix, is_rex, rex_bytes, escape, is_met, times, most, is_allowed, prefixes_fit, f3_demand, w_demand, b_demand, opcode_fits, rm_fits, bit_w, bit_b}
 use Rattle.rz_isa.specs.Reading.{Head, Opcode, skip_while, rex_at, behind_rex, second_at, opcode_at, head_at}
-use Rattle.rz_isa.specs.Table.{same_map, is_plain}
+use Rattle.rz_isa.specs.Table.{same_map, is_plain, each_from}
+use Rattle.rz_isa.specs.Spells.{UnknownFront}
 use Rattle.rz_isa.specs.Takes.{takes_rm, rm_least, has_room, most_f3, takes, is_taken, UntakenUnknown}
 use Rattle.rz_isa.proofs.Front.{head_of_spelling}
-use Rattle.rz_isa.proofs.Exclusion.{IsPlain, plain_row, list_all_get, opcode_same}
+use Rattle.rz_isa.proofs.Exclusion.{IsPlain, plain_row, list_all_get, opcode_same, each_from_at}
 use Rattle.rz_isa.proofs.Whole.{length_of}
 
 -- ---- a front that ends behind what a test lets pass
@@ -220,3 +221,13 @@ untaken_unknown rows plain bytes none rest = record {
   no_front = λ s more at x same h. not_spelled rows bytes plain none h.n h.row h.by_row.parts s more rest h.in_table h.by_row.spelled same;
   begins_none = λ h. not_spelled rows bytes plain none h.n h.row h.parts _ [] (rest ++ (h.next ∷ h.more)) h.in_table h.spelled (append-nil _ ∙ append_assoc bytes rest (h.next ∷ h.more));
 }
+
+-- ---- the same for every ModRM byte behind a front that meets a test
+
+either : (a b : Bool) → (not a || not b) ≡ true → a ≡ true → b ≡ false
+either a b h ea = grind arith
+
+pub untaken_with_rm : (rows : List Row) (front : List ℕ) (test : ℕ → Bool) → list_all is_plain rows ≡ true → each_from (λ m. not (test m) || not (is_taken rows (front ++ (m ∷ [])))) 0 256 ≡ true
+    → (m : ℕ) → m < 256 → test m ≡ true → UnknownFront rows (front ++ (m ∷ []))
+untaken_with_rm rows front test plain each m low holds =
+    untaken_unknown rows plain (front ++ (m ∷ [])) (either (test m) (is_taken rows (front ++ (m ∷ []))) (each_from_at (λ m. not (test m) || not (is_taken rows (front ++ (m ∷ [])))) 0 256 m each (omega arith) (omega arith)) holds)
