@@ -1,5 +1,5 @@
-use Rattle.std.proofs.Common.{ℕ, ◌≡◌, ◌+◌, ◌≤◌, ◌<◌, ◌/◌, ◌%◌, ◌==◌, ◌⊎◌, List, [], ◌∷◌, ◌++◌, Option, Some, None, refl, ap, sym, ◌∙◌, subst, arith, length, Bool, true, false, not, ◌&&◌, ◌||◌, inl, inr, zero, suc, append_assoc, length-append}
-use Rattle.std.specs.Prelude.{slice_get, nat_le, if◌then◌else◌, cond}
+use Rattle.std.proofs.Common.{ℕ, ◌≡◌, ◌+◌, ◌≤◌, ◌<◌, ◌==◌, ◌⊎◌, List, [], ◌∷◌, ◌++◌, Option, Some, None, refl, ap, sym, ◌∙◌, subst, arith, length, Bool, true, false, not, ◌&&◌, ◌||◌, inl, inr, zero, suc, append_assoc, length-append}
+use Rattle.std.specs.Prelude.{slice_get, nat_le, if◌then◌else◌}
 use Rattle.std.specs.List.{take_while, list_all, list_any}
 use Rattle.std.proofs.lemmas.Bool.{cases_Bool}
 use Rattle.std.proofs.lemmas.Bool.Decides.{nat_tests}
@@ -11,7 +11,7 @@ use Rattle.rz_isa.specs.declared.rows.RmRule.{RmRule}
 use Rattle.rz_isa.specs.declared.rows.F3Rule.{F3Rule}
 use Rattle.rz_isa.specs.declared.rows.F3Rule.TheVariants as f3s
 use Rattle.rz_isa.specs.declared.rows.Row.{Row}
-use Rattle.rz_isa.specs.Spelling.{Parts, SpelledBy, bytes_of, is_prefix, is_rex, rex_bytes, escape, is_met, times, most, is_allowed, prefixes_fit, f3_demand, w_demand, b_demand, opcode_fits, rm_fits, bit_w, bit_b}
+use Rattle.rz_isa.specs.Spelling.{Parts, SpelledBy, is_prefix, is_rex, rex_bytes, escape, is_met, times, most, is_allowed, prefixes_fit, f3_demand, w_demand, b_demand, opcode_fits, rm_fits, bit_w, bit_b}
 use Rattle.rz_isa.specs.Reading.{Head, Opcode, skip_while, rex_at, behind_rex, second_at, opcode_at, head_at}
 use Rattle.rz_isa.specs.Table.{same_map, is_plain, each_from}
 use Rattle.rz_isa.specs.Spells.{UnknownFront}
@@ -163,7 +163,7 @@ absent_or_within row b (c ∷ ps) qs all = elim (cases_Bool (c == b)) [
 ]
 
 once_f3 : (row : Row) (ps : List ℕ) → is_allowed row ps ≡ true → times 0xf3 ps ≤ 1
-once_f3 row ps all = elim (absent_or_within row 0xf3 ps ps all) [ | inl z ↦ omega arith | inr w ↦ omega arith ]
+once_f3 row ps all = elim (absent_or_within row 0xf3 ps ps all) [ inl z ↦ omega arith | inr w ↦ omega arith ]
 
 few_test : (n k : ℕ) → n ≤ k → nat_le n k ≡ true
 few_test n k h = grind (arith, nat_tests)
@@ -186,6 +186,7 @@ front_taken row p s bytes more rest plain h same = go (head_at bytes).opcode ref
   where
     read : head_at (bytes ++ rest) ≡ record { prefixes = p.prefixes; rex = p.rex; opcode = Some (record { map = row.map; byte = p.opcode; rest = p.rm ++ (p.imm ++ more) }) }
     read = sym (ap head_at (sym (ap (λ k. k ++ more) h.bytes) ∙ same)) ∙ head_of_spelling row p more h.fits (plain.opcodes p.opcode h.fits.opcode)
+
     go : (o : Option Opcode) → (head_at bytes).opcode ≡ o → takes (head_at bytes).prefixes (head_at bytes).rex o row ≡ true
     go None e =
         let f = passed_front is_prefix bytes rest in
