@@ -29,6 +29,7 @@ use Rattle.rz_isa.specs.Regular.{is_regular, is_block, is_exchange}
 use Rattle.rz_isa.proofs.Numbers.{number_less, numbers_of, numbers_full, signed_is_disp, extended_byte, extended_four}
 use Rattle.rz_isa.proofs.Again.{can_of}
 use Rattle.rz_isa.proofs.Inverse.{IsRegular, regular_of}
+use Rattle.rz_isa.proofs.Tests.{never}
 
 -- The fields of a spelling are fields that its row can have.
 
@@ -464,9 +465,6 @@ undemanding _ m o n e = refl
 no_rm : (d : Bool) (r : Option RmRule) → d ≡ true → not (d && is_some r) ≡ true → r ≡ None
 no_rm d None e h = refl
 no_rm d (Some r) e h = absurd (never d e (grind arith))
-  where
-    never : (d : Bool) → d ≡ true → d ≡ false → ⊥
-    never d t f = cc
 
 no_bytes : (digit : Option ℕ) (bs : List ℕ) → rm_fits None digit bs ≡ true → bs ≡ []
 no_bytes digit [] h = refl

@@ -1,3 +1,4 @@
+pub mod Tests
 pub mod Front
 pub mod Exclusion
 pub mod OneRow

@@ -1,7 +1,6 @@
 use Rattle.std.proofs.Common.{ℕ, zero, suc, ◌≡◌, ◌<◌, ◌+◌, ◌%◌, ◌^◌, refl, ap, sym, ◌∙◌, subst, arith, List, [], ◌∷◌, Bool, true, false, not, ◌&&◌, Option, Some, None}
 use Rattle.std.specs.Prelude.{nat_lt, IsSome, slice_get, is_some, if◌then◌else◌}
 use Rattle.std.specs.Option.{option_and_then}
-use Rattle.std.proofs.lemmas.Bool.Decides.{nat_tests}
 use Rattle.rz_flags.specs.declared.Cond.{Cond}
 use Rattle.rz_flags.specs.declared.Cond.TheVariants as conds
 use Rattle.rz_flags.specs.Cond.{number_of}
@@ -31,6 +30,7 @@ use Rattle.rz_isa.specs.Spelling.{bytes_of}
 use Rattle.rz_isa.specs.Canonical.{parts_for, reaches, length_for, same_form, Chosen, or_chosen, chosen_by, chosen, spelled_at, canonical}
 use Rattle.rz_isa.proofs.Again.{Had, can_of}
 use Rattle.rz_isa.proofs.Choice.{serves_by}
+use Rattle.rz_isa.proofs.Tests.{below_test, some_same, passed}
 
 -- How to show, for a table whose rows are known, that an instruction has a canonical spelling.
 
@@ -39,12 +39,6 @@ abbrev pub none_below : (Row → Bool) → List Row → ℕ → Bool
 none_below test [] k = true
 none_below test (r ∷ rows) zero = true
 none_below test (r ∷ rows) (suc k) = not (test r) && none_below test rows k
-
-some_row : (a b : Row) → Some a ≡ Some b → a ≡ b
-some_row a b e = cc
-
-none_row : (a : Row) → None ≡ Some a → ⊥
-none_row a e = cc
 
 and_parts : (a b : Bool) → (not a && b) ≡ true → (a ≡ false) × (b ≡ true)
 and_parts a b h = (grind arith, grind arith)
@@ -61,7 +55,7 @@ pub chosen_at : (find : Row → Option Fields) (rows : List Row) (form : Form) (
     → same_form row.form form ≡ true → find row ≡ Some g → chosen_by find rows form ≡ Some (record { row = row; fields = g })
 chosen_at find [] form k row g at none same e = absurd (grind arith)
 chosen_at find (r ∷ rows) form zero row g at none same e =
-    let s = some_row r row at in
+    let s = some_same r row at in
     let f : same_form r.form form ≡ true = ap (λ (x : Row). same_form x.form form) s ∙ same in
     let o : find r ≡ Some g = ap find s ∙ e in
     ap (λ k. if k then or_chosen r (find r) (chosen_by find rows form) else chosen_by find rows form) f
@@ -88,11 +82,7 @@ abbrev pub Serves : List Row → Form → Insn → ℕ → Row → Type 0
 Serves rows form x k row = first_at (serves_by (λ q. found q x) form) rows k ≡ Some row
 
 first_parts : (test : Row → Bool) (rows : List Row) (k : ℕ) (row : Row) → first_at test rows k ≡ Some row → (none_below test rows k ≡ true) × (slice_get rows k ≡ Some row)
-first_parts test rows k row e = by (none_below test rows k) (slice_get rows k) e
-  where
-    by : (none : Bool) (o : Option Row) → (if none then o else None) ≡ Some row → (none ≡ true) × (o ≡ Some row)
-    by true o e = (refl, e)
-    by false o e = absurd (none_row row e)
+first_parts test rows k row e = passed (none_below test rows k) (slice_get rows k) row e
 
 pub served : (rows : List Row) (x : Insn) (at : ℕ) (form : Form) (k : ℕ) (row : Row) (g : Fields) → Serves rows form x k row
     → same_form row.form form ≡ true → found_in row.op x (least row) ≡ Some g → Had row g → reaches row g ((at + length_for row g) % 2 ^ 64) ≡ true → IsSome (canonical rows x at form)
@@ -117,9 +107,6 @@ cond_low conds.L = refl
 cond_low conds.GE = refl
 cond_low conds.LE = refl
 cond_low conds.G = refl
-
-pub below_test : (n m : ℕ) → n < m → nat_lt n m ≡ true
-below_test n m lt = grind (arith, nat_tests)
 
 -- ---- the rows of the instructions that a written file is made of
 

@@ -1,11 +1,11 @@
-use Rattle.std.proofs.Common.{ℕ, ◌≡◌, ◌+◌, ◌≤◌, ◌<◌, ◌==◌, ◌⊎◌, List, [], ◌∷◌, ◌++◌, Option, Some, None, refl, ap, sym, ◌∙◌, subst, arith, length, Bool, true, false, not, ◌&&◌, ◌||◌, inl, inr, zero, suc, append_assoc, length-append}
+use Rattle.std.proofs.Common.{ℕ, ◌≡◌, ◌+◌, ◌≤◌, ◌<◌, ◌==◌, ◌⊎◌, List, [], ◌∷◌, ◌++◌, Option, Some, None, refl, ap, sym, ◌∙◌, subst, arith, length, Bool, true, false, not, ◌||◌, inl, inr, zero, suc, append_assoc, length-append}
 use Rattle.std.specs.Prelude.{slice_get, nat_le, if◌then◌else◌}
 use Rattle.std.specs.List.{take_while, list_all, list_any}
 use Rattle.std.proofs.lemmas.Bool.{cases_Bool}
 use Rattle.std.proofs.lemmas.Bool.Decides.{nat_tests}
+use Rattle.std.proofs.lemmas.List.{append-nil}
 use Rattle.std.proofs.lemmas.Grind.{common_steps}
 use Rattle.std.proofs.lemmas.List.Sums.{take_while-cons}
-use Rattle.rz_isa.specs.declared.rows.OpMap.{OpMap}
 use Rattle.rz_isa.specs.declared.rows.OpMap.TheVariants as maps
 use Rattle.rz_isa.specs.declared.rows.RmRule.{RmRule}
 use Rattle.rz_isa.specs.declared.rows.F3Rule.{F3Rule}
@@ -13,12 +13,13 @@ use Rattle.rz_isa.specs.declared.rows.F3Rule.TheVariants as f3s
 use Rattle.rz_isa.specs.declared.rows.Row.{Row}
 use Rattle.rz_isa.specs.Spelling.{Parts, SpelledBy, is_prefix, is_rex, rex_bytes, escape, is_met, times, most, is_allowed, prefixes_fit, f3_demand, w_demand, b_demand, opcode_fits, rm_fits, bit_w, bit_b}
 use Rattle.rz_isa.specs.Reading.{Head, Opcode, skip_while, rex_at, behind_rex, second_at, opcode_at, head_at}
-use Rattle.rz_isa.specs.Table.{same_map, is_plain, each_from}
+use Rattle.rz_isa.specs.Table.{is_plain, each_from}
 use Rattle.rz_isa.specs.Spells.{UnknownFront}
 use Rattle.rz_isa.specs.Takes.{takes_rm, rm_least, has_room, most_f3, takes, is_taken, UntakenUnknown}
 use Rattle.rz_isa.proofs.Front.{head_of_spelling}
-use Rattle.rz_isa.proofs.Exclusion.{IsPlain, plain_row, list_all_get, opcode_same, each_from_at}
+use Rattle.rz_isa.proofs.Exclusion.{IsPlain, plain_row, list_all_get, each_from_at, same_maps}
 use Rattle.rz_isa.proofs.Whole.{length_of}
+use Rattle.rz_isa.proofs.Tests.{never, and_both, within_test, some_same}
 
 -- ---- a front that ends behind what a test lets pass
 
@@ -41,12 +42,12 @@ behind o rest = record { map = o.map; byte = o.byte; rest = o.rest ++ rest }
 
 second_goes_on : (bs rest : List ℕ) (o : Opcode) → second_at bs ≡ Some o → second_at (bs ++ rest) ≡ Some (behind o rest)
 second_goes_on [] rest o e = absurd (cc)
-second_goes_on (b ∷ bs) rest o e = ap (λ k. Some (behind k rest)) (opcode_same _ o e)
+second_goes_on (b ∷ bs) rest o e = ap (λ k. Some (behind k rest)) (some_same _ o e)
 
 opcode_goes_on_by : (is_escape : Bool) (b : ℕ) (bs rest : List ℕ) (o : Opcode) → (if is_escape then second_at bs else Some (record { map = maps.One; byte = b; rest = bs })) ≡ Some o
     → (if is_escape then second_at (bs ++ rest) else Some (record { map = maps.One; byte = b; rest = bs ++ rest })) ≡ Some (behind o rest)
 opcode_goes_on_by true b bs rest o e = second_goes_on bs rest o e
-opcode_goes_on_by false b bs rest o e = ap (λ k. Some (behind k rest)) (opcode_same _ o e)
+opcode_goes_on_by false b bs rest o e = ap (λ k. Some (behind k rest)) (some_same _ o e)
 
 opcode_goes_on : (bs rest : List ℕ) (o : Opcode) → opcode_at bs ≡ Some o → opcode_at (bs ++ rest) ≡ Some (behind o rest)
 opcode_goes_on [] rest o e = absurd (cc)
@@ -72,15 +73,6 @@ head_goes_on bytes rest o e = go (skip_while is_prefix bytes) refl e
 
 -- ---- a spelling's front is taken by its row: where it has an opcode
 
-and_both : (a b : Bool) → a ≡ true → b ≡ true → (a && b) ≡ true
-and_both a b ea eb = grind arith
-
-map_same : (a b : OpMap) → b ≡ a → same_map a b ≡ true
-map_same maps.One maps.One e = refl
-map_same maps.Two maps.Two e = refl
-map_same maps.One maps.Two e = absurd (cc)
-map_same maps.Two maps.One e = absurd (cc)
-
 rm_taken : (rule : Option RmRule) (digit : Option ℕ) (a b x y : List ℕ) → rm_fits rule digit a ≡ true → b ++ x ≡ a ++ y → takes_rm rule digit b ≡ true
 rm_taken None digit a b x y fit same = refl
 rm_taken (Some rule) digit a [] x y fit same = refl
@@ -94,20 +86,17 @@ rm_least_of None digit a fit = omega arith
 rm_least_of (Some rule) digit [] fit = absurd (cc)
 rm_least_of (Some rule) digit (m ∷ a) fit = omega arith
 
-room_test : (n : ℕ) → n ≤ 15 → nat_le n 15 ≡ true
-room_test n h = grind (arith, nat_tests)
-
 room_of : (row : Row) (p : Parts) (s : List ℕ) (ps : List ℕ) (rex : Option ℕ) → SpelledBy row p s → length ps ≤ length p.prefixes → length (rex_bytes rex) ≤ length (rex_bytes p.rex) → has_room row ps rex ≡ true
 room_of row p s ps rex h lp lr =
     let n : length s ≡ length p.prefixes + (length (rex_bytes p.rex) + (length (escape row.map) + (1 + (length p.rm + length p.imm)))) = ap length h.bytes ∙ length_of row p in
     let short : length s ≤ 15 = grind (arith, nat_tests, h.short) in
     let least = rm_least_of row.rm row.digit p.rm h.fits.rm in
-    room_test _ (omega arith)
+    within_test _ 15 (omega arith)
 
 opcode_taken : (row : Row) (p : Parts) (s ps : List ℕ) (rex : Option ℕ) (o : Opcode) (x y : List ℕ) → SpelledBy row p s → ps ≡ p.prefixes → rex ≡ p.rex → o.map ≡ row.map → o.byte ≡ p.opcode → o.rest ++ x ≡ p.rm ++ y
     → takes ps rex (Some o) row ≡ true
 opcode_taken row p s ps rex o x y h ep er em eo et =
-    let map = map_same row.map o.map em in
+    let map = same_maps row.map o.map (sym em) in
     let opcode = ap (opcode_fits row) eo ∙ h.fits.opcode in
     let prefixes = ap (prefixes_fit row) ep ∙ h.fits.prefixes in
     let w = ap (λ k. is_met (w_demand row.size) (bit_w k)) er ∙ h.fits.w in
@@ -165,9 +154,6 @@ absent_or_within row b (c ∷ ps) qs all = elim (cases_Bool (c == b)) [
 once_f3 : (row : Row) (ps : List ℕ) → is_allowed row ps ≡ true → times 0xf3 ps ≤ 1
 once_f3 row ps all = elim (absent_or_within row 0xf3 ps ps all) [ inl z ↦ omega arith | inr w ↦ omega arith ]
 
-few_test : (n k : ℕ) → n ≤ k → nat_le n k ≡ true
-few_test n k h = grind (arith, nat_tests)
-
 prefixes_taken : (row : Row) (p : Parts) (s ps zs : List ℕ) (rex : Option ℕ) → SpelledBy row p s → p.prefixes ≡ ps ++ zs → length (rex_bytes rex) ≤ length (rex_bytes p.rex) → takes ps rex None row ≡ true
 prefixes_taken row p s ps zs rex h ep lr =
     let fit : prefixes_fit row p.prefixes ≡ true = h.fits.prefixes in
@@ -177,7 +163,7 @@ prefixes_taken row p s ps zs rex h ep lr =
     let more : times 0xf3 p.prefixes ≡ times 0xf3 ps + times 0xf3 zs = ap (times 0xf3) ep ∙ times-append 0xf3 ps zs in
     let few : times 0xf3 ps ≤ most_f3 row.f3 = omega arith in
     let n : length p.prefixes ≡ length ps + length zs = ap length ep ∙ length-append ps zs in
-    and_both _ _ (and_both _ _ (allowed_front row ps zs (sym (ap (is_allowed row) ep) ∙ all)) (few_test _ _ few)) (room_of row p s ps rex h (omega arith) lr)
+    and_both _ _ (and_both _ _ (allowed_front row ps zs (sym (ap (is_allowed row) ep) ∙ all)) (within_test _ _ few)) (room_of row p s ps rex h (omega arith) lr)
 
 -- ---- what no row takes is unknown
 
@@ -195,7 +181,7 @@ front_taken row p s bytes more rest plain h same = go (head_at bytes).opcode ref
         (subst (λ k. length (rex_bytes (head_at bytes).rex) ≤ length (rex_bytes k)) (ap (λ (k : Head). k.rex) read) (rex_front bytes rest))
     go (Some o) e =
         let t = sym (head_goes_on bytes rest o e) ∙ read in
-        let c = opcode_same _ _ (ap (λ (k : Head). k.opcode) t) in
+        let c = some_same _ _ (ap (λ (k : Head). k.opcode) t) in
         opcode_taken row p s (head_at bytes).prefixes (head_at bytes).rex o rest (p.imm ++ more) h
         (ap (λ (k : Head). k.prefixes) t) (ap (λ (k : Head). k.rex) t) (ap (λ (k : Opcode). k.map) c) (ap (λ (k : Opcode). k.byte) c) (ap (λ (k : Opcode). k.rest) c)
 
@@ -204,18 +190,11 @@ any_missed test [] n r none at = absurd (grind arith)
 any_missed test (q ∷ rows) zero r none at = (let e : q ≡ r = grind arith in subst (λ k. test k ≡ false) e (grind arith))
 any_missed test (q ∷ rows) (suc n) r none at = any_missed test rows n r (grind arith) (grind arith)
 
-never : (b : Bool) → b ≡ true → b ≡ false → ⊥
-never b t f = cc
-
 not_spelled : (rows : List Row) (bytes : List ℕ) → list_all is_plain rows ≡ true → is_taken rows bytes ≡ false
     → (n : ℕ) (row : Row) (p : Parts) (s more rest : List ℕ) → slice_get rows n ≡ Some row → SpelledBy row p s → s ++ more ≡ bytes ++ rest → ⊥
 not_spelled rows bytes plain none n row p s more rest at h same =
     never _ (front_taken row p s bytes more rest (plain_row row (list_all_get is_plain rows n row plain at)) h same)
     (any_missed (takes (head_at bytes).prefixes (head_at bytes).rex (head_at bytes).opcode) rows n row none at)
-
-append-nil : (xs : List ℕ) → xs ++ [] ≡ xs
-append-nil [] = refl
-append-nil (x ∷ xs) = ap (λ k. x ∷ k) (append-nil xs)
 
 pub untaken_unknown : (rows : List Row) → list_all is_plain rows ≡ true → UntakenUnknown rows
 untaken_unknown rows plain bytes none rest = record {

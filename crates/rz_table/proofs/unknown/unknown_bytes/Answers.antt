@@ -1,14 +1,8 @@
-use Rattle.std.proofs.Common.{ℕ, ◌≡◌, ◌≢◌, ◌/◌, ◌%◌, ◌==◌, true, not, [], ◌∷◌, refl, arith}
-use Rattle.std.proofs.lemmas.Bool.Decides.{nat_tests}
+use Rattle.std.proofs.Common.{ℕ, ◌≡◌, ◌≢◌, ◌/◌, ◌%◌, ◌==◌, true, not, [], ◌∷◌, refl, ap}
+use Rattle.rz_isa.proofs.Tests.{equal_test, unequal_test}
 use Rattle.rz_isa.proofs.Untaken.{untaken_unknown, untaken_with_rm}
 use Rattle.rz_table.specs.declared.profile_rows.TheConstants.{PROFILE}
 use Rattle.rz_table.proofs.unknown.unknown_bytes.Goals as goal
-
-equal_test : (n k : ℕ) → n ≡ k → (n == k) ≡ true
-equal_test n k e = grind (arith, nat_tests)
-
-unequal_test : (n k : ℕ) → n ≢ k → not (n == k) ≡ true
-unequal_test n k e = grind (arith, nat_tests)
 
 pub returns-clause-push_with_66 : goal.returns-clause-push_with_66
 returns-clause-push_with_66 c = untaken_unknown PROFILE refl (0x66 ∷ 0x50 ∷ []) refl
@@ -74,10 +68,10 @@ pub returns-clause-group_3_digit_1 : goal.returns-clause-group_3_digit_1
 returns-clause-group_3_digit_1 c = λ m low digit. untaken_with_rm PROFILE (0xf6 ∷ []) (λ m. m / 8 % 8 == 1) refl refl m low (equal_test (m / 8 % 8) 1 digit)
 
 pub returns-clause-long_nop_digit : goal.returns-clause-long_nop_digit
-returns-clause-long_nop_digit c = λ m low digit. untaken_with_rm PROFILE (0x0f ∷ 0x1f ∷ []) (λ m. not (m / 8 % 8 == 0)) refl refl m low (unequal_test (m / 8 % 8) 0 digit)
+returns-clause-long_nop_digit c = λ m low digit. untaken_with_rm PROFILE (0x0f ∷ 0x1f ∷ []) (λ m. not (m / 8 % 8 == 0)) refl refl m low (ap not (unequal_test (m / 8 % 8) 0 digit))
 
 pub returns-clause-bit_test_of_memory : goal.returns-clause-bit_test_of_memory
-returns-clause-bit_test_of_memory c = λ m low digit. untaken_with_rm PROFILE (0x0f ∷ 0xa3 ∷ []) (λ m. not (m / 64 == 3)) refl refl m low (unequal_test (m / 64) 3 digit)
+returns-clause-bit_test_of_memory c = λ m low digit. untaken_with_rm PROFILE (0x0f ∷ 0xa3 ∷ []) (λ m. not (m / 64 == 3)) refl refl m low (ap not (unequal_test (m / 64) 3 digit))
 
 pub returns-clause-f3_0f_1e_but_endbr64 : goal.returns-clause-f3_0f_1e_but_endbr64
-returns-clause-f3_0f_1e_but_endbr64 c = λ m low digit. untaken_with_rm PROFILE (0xf3 ∷ 0x0f ∷ 0x1e ∷ []) (λ m. not (m == 0xfa)) refl refl m low (unequal_test (m) 0xfa digit)
+returns-clause-f3_0f_1e_but_endbr64 c = λ m low digit. untaken_with_rm PROFILE (0xf3 ∷ 0x0f ∷ 0x1e ∷ []) (λ m. not (m == 0xfa)) refl refl m low (ap not (unequal_test m 0xfa digit))
