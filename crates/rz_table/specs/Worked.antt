@@ -1,6 +1,9 @@
 use Rattle.std.specs.Prelude.{◌≡◌, ◌&&◌, Bool, true, [], ◌∷◌, Some, None, is_some, pos, refl, if◌then◌else◌}
 use Rattle.std.specs.List.{list_all}
-use Rattle.rz_num.specs.declared.width.Width.TheVariants.{W32, W64}
+use Rattle.rz_num.specs.declared.width.Width.TheVariants.{W16, W32, W64}
+use Rattle.rz_flags.specs.declared.ArithOp.TheVariants as ariths
+use Rattle.rz_flags.specs.declared.ShiftOp.TheVariants as shifts
+use Rattle.rz_flags.specs.declared.ScanOp.TheVariants as scans
 use Rattle.rz_flags.specs.declared.Cond.TheVariants as conds
 use Rattle.rz_isa.specs.declared.rows.Row.{Row}
 use Rattle.rz_isa.specs.declared.rows.Form.TheVariants as forms
@@ -8,6 +11,7 @@ use Rattle.rz_isa.specs.declared.instruction.Insn.TheVariants as insns
 use Rattle.rz_isa.specs.declared.instruction.Reg.TheVariants as regs
 use Rattle.rz_isa.specs.declared.instruction.Place.TheVariants as places
 use Rattle.rz_isa.specs.declared.instruction.Operand.TheVariants as operands
+use Rattle.rz_isa.specs.declared.instruction.Count.TheVariants as counts
 use Rattle.rz_isa.specs.declared.spelled.Fields.{Fields}
 use Rattle.rz_isa.specs.Fields.{build_op}
 use Rattle.rz_isa.specs.Having.{can_have}
@@ -171,6 +175,29 @@ one_to_rax = refl
 
 address_of_stack : canonical PROFILE (insns.Lea W64 4 (places.Mem (record { base = Some 4; index = None; scale = 1; disp = pos 16 }))) 0x1000 forms.Near ≡ Some (0x48 ∷ 0x8d ∷ 0x64 ∷ 0x24 ∷ 0x10 ∷ [])
 address_of_stack = refl
+
+-- MOV of an immediate: the register's own opcode at 32 bits, C7 at 64 where four bytes do, else eight
+one_to_eax : canonical PROFILE (insns.Mov W32 (places.Reg (regs.R 0)) (operands.Imm 1)) 0x1000 forms.Near ≡ Some (0xb8 ∷ 0x01 ∷ 0x00 ∷ 0x00 ∷ 0x00 ∷ [])
+one_to_eax = refl
+
+eight_bytes_to_rax : canonical PROFILE (insns.Mov W64 (places.Reg (regs.R 0)) (operands.Imm 0x80000000)) 0x1000 forms.Near ≡ Some (0x48 ∷ 0xb8 ∷ 0x00 ∷ 0x00 ∷ 0x00 ∷ 0x80 ∷ 0x00 ∷ 0x00 ∷ 0x00 ∷ 0x00 ∷ [])
+eight_bytes_to_rax = refl
+
+-- 81 and not the accumulator's opcode
+sum_in_eax : canonical PROFILE (insns.Arith ariths.Add W32 (places.Reg (regs.R 0)) (operands.Imm 0x12345678)) 0x1000 forms.Near ≡ Some (0x81 ∷ 0xc0 ∷ 0x78 ∷ 0x56 ∷ 0x34 ∷ 0x12 ∷ [])
+sum_in_eax = refl
+
+-- 87 and not the register's opcode
+exchange_with_eax : canonical PROFILE (insns.Xchg W32 (places.Reg (regs.R 1)) (regs.R 0)) 0x1000 forms.Near ≡ Some (0x87 ∷ 0xc1 ∷ [])
+exchange_with_eax = refl
+
+-- D1 and not C1
+shift_by_one : canonical PROFILE (insns.Shift shifts.Shl W32 (places.Reg (regs.R 0)) (counts.Imm 1)) 0x1000 forms.Near ≡ Some (0xd1 ∷ 0xe0 ∷ [])
+shift_by_one = refl
+
+-- 66 stands before F3
+ones_of_cx : canonical PROFILE (insns.Scan scans.Popcnt W16 0 (places.Reg (regs.R 1))) 0x1000 forms.Near ≡ Some (0x66 ∷ 0xf3 ∷ 0x0f ∷ 0xb8 ∷ 0xc1 ∷ [])
+ones_of_cx = refl
 
 -- ---- each row once: plain fields can be had, and are found again from what they build
 

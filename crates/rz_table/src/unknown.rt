@@ -21,7 +21,7 @@ pub fn unknown_bytes()
     ensures exchange_with_f3 { UnknownFront PROFILE (0xf3 ∷ 0x41 ∷ 0x90 ∷ []) }
     ensures endbr64_without_f3 { UnknownFront PROFILE (0x0f ∷ 0x1e ∷ []) }
     ensures nop_with_67 { UnknownFront PROFILE (0x67 ∷ 0x90 ∷ []) }
-    ensures segment_twice { UnknownFront PROFILE (0x2e ∷ 0x2e ∷ []) }
+    ensures segment_override_twice { UnknownFront PROFILE (0x2e ∷ 0x2e ∷ []) }
     ensures rex_twice { UnknownFront PROFILE (0x40 ∷ 0x40 ∷ []) }
     ensures lock { UnknownFront PROFILE (0xf0 ∷ []) }
     ensures prefixes_66_67 { UnknownFront PROFILE (0x66 ∷ 0x67 ∷ []) }
@@ -31,5 +31,5 @@ pub fn unknown_bytes()
     ensures group_3_digit_1 { (m : ℕ) → m < 256 → m / 8 % 8 ≡ 1 → UnknownFront PROFILE (0xf6 ∷ m ∷ []) }
     ensures long_nop_digit { (m : ℕ) → m < 256 → m / 8 % 8 ≢ 0 → UnknownFront PROFILE (0x0f ∷ 0x1f ∷ m ∷ []) }
     ensures bit_test_of_memory { (m : ℕ) → m < 256 → m / 64 ≢ 3 → UnknownFront PROFILE (0x0f ∷ 0xa3 ∷ m ∷ []) }
-    ensures f3_0f_1e_but_endbr64 { (m : ℕ) → m < 256 → m ≢ 0xfa → UnknownFront PROFILE (0xf3 ∷ 0x0f ∷ 0x1e ∷ m ∷ []) }
+    ensures endbr64_of_another_byte { (m : ℕ) → m < 256 → m ≢ 0xfa → UnknownFront PROFILE (0xf3 ∷ 0x0f ∷ 0x1e ∷ m ∷ []) }
 {}

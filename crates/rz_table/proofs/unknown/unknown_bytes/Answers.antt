@@ -1,4 +1,4 @@
-use Rattle.std.proofs.Common.{ℕ, ◌≡◌, ◌≢◌, ◌/◌, ◌%◌, ◌==◌, true, not, [], ◌∷◌, refl, ap}
+use Rattle.std.proofs.Common.{◌/◌, ◌%◌, ◌==◌, not, [], ◌∷◌, refl, ap}
 use Rattle.rz_isa.proofs.Tests.{equal_test, unequal_test}
 use Rattle.rz_isa.proofs.Untaken.{untaken_unknown, untaken_with_rm}
 use Rattle.rz_table.specs.declared.profile_rows.TheConstants.{PROFILE}
@@ -43,8 +43,8 @@ returns-clause-endbr64_without_f3 c = untaken_unknown PROFILE refl (0x0f ∷ 0x1
 pub returns-clause-nop_with_67 : goal.returns-clause-nop_with_67
 returns-clause-nop_with_67 c = untaken_unknown PROFILE refl (0x67 ∷ 0x90 ∷ []) refl
 
-pub returns-clause-segment_twice : goal.returns-clause-segment_twice
-returns-clause-segment_twice c = untaken_unknown PROFILE refl (0x2e ∷ 0x2e ∷ []) refl
+pub returns-clause-segment_override_twice : goal.returns-clause-segment_override_twice
+returns-clause-segment_override_twice c = untaken_unknown PROFILE refl (0x2e ∷ 0x2e ∷ []) refl
 
 pub returns-clause-rex_twice : goal.returns-clause-rex_twice
 returns-clause-rex_twice c = untaken_unknown PROFILE refl (0x40 ∷ 0x40 ∷ []) refl
@@ -73,5 +73,5 @@ returns-clause-long_nop_digit c = λ m low digit. untaken_with_rm PROFILE (0x0f 
 pub returns-clause-bit_test_of_memory : goal.returns-clause-bit_test_of_memory
 returns-clause-bit_test_of_memory c = λ m low digit. untaken_with_rm PROFILE (0x0f ∷ 0xa3 ∷ []) (λ m. not (m / 64 == 3)) refl refl m low (ap not (unequal_test (m / 64) 3 digit))
 
-pub returns-clause-f3_0f_1e_but_endbr64 : goal.returns-clause-f3_0f_1e_but_endbr64
-returns-clause-f3_0f_1e_but_endbr64 c = λ m low digit. untaken_with_rm PROFILE (0xf3 ∷ 0x0f ∷ 0x1e ∷ []) (λ m. not (m == 0xfa)) refl refl m low (ap not (unequal_test m 0xfa digit))
+pub returns-clause-endbr64_of_another_byte : goal.returns-clause-endbr64_of_another_byte
+returns-clause-endbr64_of_another_byte c = λ m low digit. untaken_with_rm PROFILE (0xf3 ∷ 0x0f ∷ 0x1e ∷ []) (λ m. not (m == 0xfa)) refl refl m low (ap not (unequal_test m 0xfa digit))
