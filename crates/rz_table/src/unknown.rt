@@ -1,4 +1,4 @@
-ghost use Rattle.std.specs.Prelude.{ℕ, ◌≡◌, ◌≢◌, ◌<◌, ◌/◌, ◌%◌, [], ◌∷◌};
+ghost use Rattle.std.specs.Prelude.{ℕ, ◌≡◌, ◌≢◌, ◌<◌, ◌+◌, ◌/◌, ◌%◌, [], ◌∷◌};
 ghost use Rattle.rz_isa.specs.Spells.{UnknownFront};
 ghost use Rattle.rz_table.specs.declared.profile_rows.TheConstants.{PROFILE};
 
@@ -18,6 +18,7 @@ pub fn unknown_bytes()
     ensures quad_move_with_66 { UnknownFront PROFILE (0x66 ∷ 0x48 ∷ 0xb8 ∷ []) }
     ensures pause_with_66 { UnknownFront PROFILE (0x66 ∷ 0xf3 ∷ 0x90 ∷ []) }
     ensures double_extension_without_rex_w { UnknownFront PROFILE (0x63 ∷ []) }
+    ensures double_extension_with_rex_without_w { (bits : ℕ) → bits < 8 → UnknownFront PROFILE ((0x40 + bits) ∷ 0x63 ∷ []) }
     ensures exchange_with_f3 { UnknownFront PROFILE (0xf3 ∷ 0x41 ∷ 0x90 ∷ []) }
     ensures endbr64_without_f3 { UnknownFront PROFILE (0x0f ∷ 0x1e ∷ []) }
     ensures nop_with_67 { UnknownFront PROFILE (0x67 ∷ 0x90 ∷ []) }

@@ -1,8 +1,21 @@
-use Rattle.std.proofs.Common.{◌/◌, ◌%◌, ◌==◌, not, [], ◌∷◌, refl, ap}
+use Rattle.std.proofs.Common.{ℕ, zero, suc, ◌<◌, ◌+◌, ◌/◌, ◌%◌, ◌==◌, not, [], ◌∷◌, refl, ap, arith}
+use Rattle.rz_isa.specs.Spells.{UnknownFront}
 use Rattle.rz_isa.proofs.Tests.{equal_test, unequal_test}
 use Rattle.rz_isa.proofs.Untaken.{untaken_unknown, untaken_with_rm}
 use Rattle.rz_table.specs.declared.profile_rows.TheConstants.{PROFILE}
 use Rattle.rz_table.proofs.unknown.unknown_bytes.Goals as goal
+
+-- REX with each of its three other bits
+rex_without_w : (bits : ℕ) → bits < 8 → UnknownFront PROFILE ((0x40 + bits) ∷ 0x63 ∷ [])
+rex_without_w zero h = untaken_unknown PROFILE refl (0x40 ∷ 0x63 ∷ []) refl
+rex_without_w (suc zero) h = untaken_unknown PROFILE refl (0x41 ∷ 0x63 ∷ []) refl
+rex_without_w (suc (suc zero)) h = untaken_unknown PROFILE refl (0x42 ∷ 0x63 ∷ []) refl
+rex_without_w (suc (suc (suc zero))) h = untaken_unknown PROFILE refl (0x43 ∷ 0x63 ∷ []) refl
+rex_without_w (suc (suc (suc (suc zero)))) h = untaken_unknown PROFILE refl (0x44 ∷ 0x63 ∷ []) refl
+rex_without_w (suc (suc (suc (suc (suc zero))))) h = untaken_unknown PROFILE refl (0x45 ∷ 0x63 ∷ []) refl
+rex_without_w (suc (suc (suc (suc (suc (suc zero)))))) h = untaken_unknown PROFILE refl (0x46 ∷ 0x63 ∷ []) refl
+rex_without_w (suc (suc (suc (suc (suc (suc (suc zero))))))) h = untaken_unknown PROFILE refl (0x47 ∷ 0x63 ∷ []) refl
+rex_without_w (suc (suc (suc (suc (suc (suc (suc (suc more)))))))) h = absurd (omega arith)
 
 pub returns-clause-push_with_66 : goal.returns-clause-push_with_66
 returns-clause-push_with_66 c = untaken_unknown PROFILE refl (0x66 ∷ 0x50 ∷ []) refl
@@ -33,6 +46,9 @@ returns-clause-pause_with_66 c = untaken_unknown PROFILE refl (0x66 ∷ 0xf3 ∷
 
 pub returns-clause-double_extension_without_rex_w : goal.returns-clause-double_extension_without_rex_w
 returns-clause-double_extension_without_rex_w c = untaken_unknown PROFILE refl (0x63 ∷ []) refl
+
+pub returns-clause-double_extension_with_rex_without_w : goal.returns-clause-double_extension_with_rex_without_w
+returns-clause-double_extension_with_rex_without_w c = rex_without_w
 
 pub returns-clause-exchange_with_f3 : goal.returns-clause-exchange_with_f3
 returns-clause-exchange_with_f3 c = untaken_unknown PROFILE refl (0xf3 ∷ 0x41 ∷ 0x90 ∷ []) refl
