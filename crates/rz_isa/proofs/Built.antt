@@ -1,5 +1,5 @@
-use Rattle.std.proofs.Common.{ℕ, ◌≡◌, ◌%◌, ◌^◌, ◌<◌, ◌==◌, refl, ap, sym, ◌∙◌, arith, Bool, true, false, ◌&&◌, Option, Some, None}
-use Rattle.std.specs.Prelude.{⊤, if◌then◌else◌}
+use Rattle.std.proofs.Common.{ℕ, ◌≡◌, ◌%◌, ◌^◌, ◌<◌, ◌==◌, refl, ap, sym, ◌∙◌, arith, Bool, true, false, ◌&&◌, Some}
+use Rattle.std.specs.Prelude.{⊤}
 use Rattle.std.specs.Option.{option_and_then}
 use Rattle.std.proofs.lemmas.Bool.Decides.{nat_tests}
 use Rattle.std.proofs.lemmas.Option.{option_and_then_some}
@@ -28,6 +28,7 @@ use Rattle.rz_isa.specs.Having.{is_first}
 use Rattle.rz_isa.specs.Finding.{with_place, with_operand, with_reg, with_number, with_count, with_index, same_width, same_truth, same_arith, same_unary, same_wide, same_shift, same_bit, same_scan, same_change, rep_byte, found_in}
 use Rattle.rz_isa.proofs.Equal.{same_width-is, same_truth-is, same_arith-is, same_unary-is, same_wide-is, same_shift-is, same_bit-is, same_scan-is, same_change-is}
 use Rattle.rz_isa.specs.Regular.{Slot, nowhere, in_rm, in_reg, in_imm, place_slot, operand_slot, reg_slot, count_slot, index_slot, apart, operands_apart}
+use Rattle.rz_isa.proofs.Tests.{and_parts, some_same, passed, through}
 
 -- ---- a step changes the field of its letter alone
 
@@ -41,35 +42,27 @@ pub first_is : (r : Reg) → is_first r ≡ true → regs.R 0 ≡ r
 first_is (regs.R n) e = ap regs.R (grind (arith, nat_tests))
 first_is (regs.High n) e = absurd (cc)
 
-some_is : (f g : Fields) → Some f ≡ Some g → f ≡ g
-some_is f g e = cc
-
--- what a test lets through
-pub through : (b : Bool) (f g : Fields) → (if b then Some f else None) ≡ Some g → (b ≡ true) × (f ≡ g)
-through true f g e = (refl, some_is f g e)
-through false f g e = absurd (cc)
-
 pub with_place-step : (l : Letter) (p : Place) (f g : Fields) → with_place l p f ≡ Some g → (place_at l g ≡ p) × Kept (place_slot l) f g
-with_place-step letters.G (places.Reg r) f g e = let s = some_is _ g e in (ap (λ (k : Fields). places.Reg k.reg) (sym s), sym s ∙ (λ i. record f { reg = (s i).reg }))
+with_place-step letters.G (places.Reg r) f g e = let s = some_same _ g e in (ap (λ (k : Fields). places.Reg k.reg) (sym s), sym s ∙ (λ i. record f { reg = (s i).reg }))
 with_place-step letters.G (places.Mem m) f g e = absurd (cc)
 with_place-step letters.G (places.At a) f g e = absurd (cc)
-with_place-step letters.O (places.Reg r) f g e = let s = some_is _ g e in (ap (λ (k : Fields). places.Reg k.reg) (sym s), sym s ∙ (λ i. record f { reg = (s i).reg }))
+with_place-step letters.O (places.Reg r) f g e = let s = some_same _ g e in (ap (λ (k : Fields). places.Reg k.reg) (sym s), sym s ∙ (λ i. record f { reg = (s i).reg }))
 with_place-step letters.O (places.Mem m) f g e = absurd (cc)
 with_place-step letters.O (places.At a) f g e = absurd (cc)
 with_place-step letters.A (places.Reg r) f g e = let t = through (is_first r) f g e in (ap places.Reg (first_is r t.0), sym t.1)
 with_place-step letters.A (places.Mem m) f g e = absurd (cc)
 with_place-step letters.A (places.At a) f g e = absurd (cc)
-with_place-step _ p f g e = let s = some_is _ g e in (ap (λ (k : Fields). k.rm) (sym s), sym s ∙ (λ i. record f { rm = (s i).rm }))
+with_place-step _ p f g e = let s = some_same _ g e in (ap (λ (k : Fields). k.rm) (sym s), sym s ∙ (λ i. record f { rm = (s i).rm }))
 
 pub with_operand-step : (l : Letter) (o : Operand) (f g : Fields) → with_operand l o f ≡ Some g → (operand_at l g ≡ o) × Kept (operand_slot l) f g
-with_operand-step letters.Imm (operands.Imm n) f g e = let s = some_is _ g e in (ap (λ (k : Fields). operands.Imm k.imm) (sym s), sym s ∙ (λ i. record f { imm = (s i).imm }))
+with_operand-step letters.Imm (operands.Imm n) f g e = let s = some_same _ g e in (ap (λ (k : Fields). operands.Imm k.imm) (sym s), sym s ∙ (λ i. record f { imm = (s i).imm }))
 with_operand-step letters.Imm (operands.Place p) f g e = absurd (cc)
 with_operand-step l (operands.Place p) f g e = let t = with_place-step l p f g e in (ap operands.Place t.0, t.1)
 with_operand-step _ (operands.Imm n) f g e = absurd (cc)
 
 pub with_reg-step : (l : Letter) (r : Reg) (f g : Fields) → with_reg l r f ≡ Some g → (reg_at l g ≡ r) × Kept (reg_slot l) f g
 with_reg-step letters.A r f g e = let t = through (is_first r) f g e in (first_is r t.0, sym t.1)
-with_reg-step _ r f g e = let s = some_is _ g e in (ap (λ (k : Fields). k.reg) (sym s), sym s ∙ (λ i. record f { reg = (s i).reg }))
+with_reg-step _ r f g e = let s = some_same _ g e in (ap (λ (k : Fields). k.reg) (sym s), sym s ∙ (λ i. record f { reg = (s i).reg }))
 
 pub with_number-step : (l : Letter) (n : ℕ) (f g : Fields) → with_number l n f ≡ Some g → (number_at l g ≡ n) × Kept (reg_slot l) f g
 with_number-step l n f g e = let t = with_reg-step l (regs.R n) f g e in (ap number_of t.0, t.1)
@@ -84,12 +77,12 @@ pub with_count-step : (l : Letter) (c : Count) (f g : Fields) → g.imm < 2 ^ 8 
 with_count-step letters.One (counts.Imm n) f g small e = let t = through (n == 1) f g e in (ap counts.Imm (one_is n t.0), sym t.1)
 with_count-step letters.One counts.Cl f g small e = absurd (cc)
 with_count-step letters.Cl (counts.Imm n) f g small e = absurd (cc)
-with_count-step letters.Cl counts.Cl f g small e = (refl, sym (some_is f g e))
-with_count-step _ (counts.Imm n) f g small e = let s = some_is _ g e in (ap counts.Imm (cut n g.imm (ap (λ (k : Fields). k.imm) (sym s)) small), sym s ∙ (λ i. record f { imm = (s i).imm }))
+with_count-step letters.Cl counts.Cl f g small e = (refl, sym (some_same f g e))
+with_count-step _ (counts.Imm n) f g small e = let s = some_same _ g e in (ap counts.Imm (cut n g.imm (ap (λ (k : Fields). k.imm) (sym s)) small), sym s ∙ (λ i. record f { imm = (s i).imm }))
 with_count-step _ counts.Cl f g small e = absurd (cc)
 
 pub with_index-step : (l : Letter) (x : BitIndex) (f g : Fields) → g.imm < 2 ^ 8 → with_index l x f ≡ Some g → (index_at l g ≡ x) × Kept (index_slot l) f g
-with_index-step letters.Imm (indexes.Imm n) f g small e = let s = some_is _ g e in (ap indexes.Imm (cut n g.imm (ap (λ (k : Fields). k.imm) (sym s)) small), sym s ∙ (λ i. record f { imm = (s i).imm }))
+with_index-step letters.Imm (indexes.Imm n) f g small e = let s = some_same _ g e in (ap indexes.Imm (cut n g.imm (ap (λ (k : Fields). k.imm) (sym s)) small), sym s ∙ (λ i. record f { imm = (s i).imm }))
 with_index-step letters.Imm (indexes.Reg n) f g small e = absurd (cc)
 with_index-step l (indexes.Reg n) f g small e = let t = with_number-step l n f g e in (ap indexes.Reg t.0, t.1)
 with_index-step _ (indexes.Imm n) f g small e = absurd (cc)
@@ -266,14 +259,6 @@ imm_small (ops.BitTest o d i) n = n < 2 ^ 8
 imm_small ops.Ret n = n < 2 ^ 16
 imm_small _ n = ⊤
 
--- a test and what it lets through
-pub passed : (b : Bool) (o : Option Fields) (g : Fields) → (if b then o else None) ≡ Some g → (b ≡ true) × (o ≡ Some g)
-passed true o g e = (refl, e)
-passed false o g e = absurd (cc)
-
-both : (a b : Bool) → (a && b) ≡ true → (a ≡ true) × (b ≡ true)
-both a b h = (grind arith, grind arith)
-
 pub built : (op : Op) (x : Insn) (f g : Fields) → operands_apart op ≡ true → imm_small op g.imm → found_in op x f ≡ Some g → build_op op g ≡ x
 built (ops.Arith o d s) (insns.Arith p w dst src) f g a small e =
     let t = passed (same_arith o p) _ g e in
@@ -285,7 +270,7 @@ built (ops.Mov d s) (insns.Mov w dst src) f g a small e = let r = place_operand 
 built (ops.Lea d s) (insns.Lea w dst src) f g a small e = let r = number_place d s dst src _ g a e in λ i. insns.Lea (r.w i) (r.dst i) (r.src i)
 built (ops.Extend o d s) (insns.Extend p to from dst src) f g a small e =
     let t = passed (same_truth o p && same_width from (letter_width s to)) _ g e in
-    let b = both (same_truth o p) (same_width from (letter_width s to)) t.0 in
+    let b = and_parts (same_truth o p) (same_width from (letter_width s to)) t.0 in
     let q = same_truth-is o p b.0 in
     let v = same_width-is from (letter_width s to) b.1 in
     let r = number_place d s dst src _ g a t.1 in
@@ -329,21 +314,21 @@ built (ops.Set d) (insns.Set c dst) f g a small e =
     let q = ap (λ k. cond_of (k % 16)) (cond_kept (place_slot d) _ g r.1) ∙ cond_again c in
     λ i. insns.Set (q i) (r.0 i)
 built ops.Jcc (insns.Jcc c target) f g a small e =
-    let s = some_is _ g e in
+    let s = some_same _ g e in
     let q = ap (λ (k : Fields). cond_of (k.cond % 16)) (sym s) ∙ cond_again c in
     let t = ap (λ (k : Fields). k.imm) (sym s) in
     λ i. insns.Jcc (q i) (t i)
-built ops.Jrcxz (insns.Jrcxz target) f g a small e = ap (λ (k : Fields). insns.Jrcxz k.imm) (sym (some_is _ g e))
-built ops.Jmp (insns.Jmp target) f g a small e = ap (λ (k : Fields). insns.Jmp k.imm) (sym (some_is _ g e))
-built ops.Call (insns.Call target) f g a small e = ap (λ (k : Fields). insns.Call k.imm) (sym (some_is _ g e))
+built ops.Jrcxz (insns.Jrcxz target) f g a small e = ap (λ (k : Fields). insns.Jrcxz k.imm) (sym (some_same _ g e))
+built ops.Jmp (insns.Jmp target) f g a small e = ap (λ (k : Fields). insns.Jmp k.imm) (sym (some_same _ g e))
+built ops.Call (insns.Call target) f g a small e = ap (λ (k : Fields). insns.Call k.imm) (sym (some_same _ g e))
 built (ops.CallInd s) (insns.CallInd src) f g a small e = ap insns.CallInd (with_place-step s src f g e).0
 built (ops.JmpInd s) (insns.JmpInd src) f g a small e = ap insns.JmpInd (with_place-step s src f g e).0
-built ops.Ret (insns.Ret pop) f g a small e = let t = ap (λ (k : Fields). k.imm) (sym (some_is _ g e)) in ap insns.Ret (cut16 pop g.imm t small)
+built ops.Ret (insns.Ret pop) f g a small e = let t = ap (λ (k : Fields). k.imm) (sym (some_same _ g e)) in ap insns.Ret (cut16 pop g.imm t small)
   where
     cut16 : (n k : ℕ) → k ≡ n → k < 2 ^ 16 → k % 2 ^ 16 ≡ n
     cut16 n k e lt = omega arith
-built ops.Convert (insns.Convert w) f g a small e = ap (λ (k : Fields). insns.Convert k.w) (sym (some_is _ g e))
-built ops.SignFill (insns.SignFill w) f g a small e = ap (λ (k : Fields). insns.SignFill k.w) (sym (some_is _ g e))
+built ops.Convert (insns.Convert w) f g a small e = ap (λ (k : Fields). insns.Convert k.w) (sym (some_same _ g e))
+built ops.SignFill (insns.SignFill w) f g a small e = ap (λ (k : Fields). insns.SignFill k.w) (sym (some_same _ g e))
 built (ops.Xchg d s) (insns.Xchg w dst src) f g a small e = let r = place_reg d s dst src _ g a e in λ i. insns.Xchg (r.w i) (r.dst i) (r.other i)
 built ops.Nop insns.Nop f g a small e = refl
 built (ops.Bswap d) (insns.Bswap w reg) f g a small e =
@@ -361,12 +346,12 @@ built (ops.Scan o d s) (insns.Scan p w dst src) f g a small e =
     let r = number_place d s dst src _ g a t.1 in
     λ i. insns.Scan (q i) (r.w i) (r.dst i) (r.src i)
 built ops.Movs (insns.Movs w rep) f g a small e =
-    let s = some_is _ g e in
+    let s = some_same _ g e in
     let v = ap (λ (k : Fields). k.w) (sym s) in
     let q = ap (λ (k : Fields). is_rep k.rep) (sym s) ∙ rep_again rep in
     λ i. insns.Movs (v i) (q i)
 built ops.Stos (insns.Stos w rep) f g a small e =
-    let s = some_is _ g e in
+    let s = some_same _ g e in
     let v = ap (λ (k : Fields). k.w) (sym s) in
     let q = ap (λ (k : Fields). is_rep k.rep) (sym s) ∙ rep_again rep in
     λ i. insns.Stos (v i) (q i)

@@ -25,14 +25,12 @@ use Rattle.rz_isa.proofs.Inverse.{builds_found}
 use Rattle.rz_isa.proofs.Inverse as inverse
 use Rattle.rz_isa.proofs.Read.{little_length}
 use Rattle.rz_isa.proofs.Whole.{can_is, is_can, length_of, spelled_for, parts_read}
+use Rattle.rz_isa.proofs.Tests.{never, and_parts, and_both, some_same, none_some, through}
 
 -- ---- what is found, by spellings
 
 pub found_builds : (row : Row) (x : Insn) (g : Fields) → is_regular row ≡ true → found row x ≡ Some g → Builds row x g
 found_builds row x g regular e = (let t = inverse.found_builds row x g regular e in record { had = can_is row g regular t.had; built = t.built })
-
-none_some : (f : Fields) → None ≡ Some f → ⊥
-none_some f e = cc
 
 pub none_builds : (row : Row) (x : Insn) → is_regular row ≡ true → found row x ≡ None → NoneBuilds row x
 none_builds row x regular none f b =
@@ -76,9 +74,6 @@ pub record First (test : Row → Bool) (rows : List Row) : Type 0 where
   pub holds : test row ≡ true
   pub none_before : (m : ℕ) (q : Row) → m < n → slice_get rows m ≡ Some q → test q ≡ false
 
-some_same : (a b : Row) → Some a ≡ Some b → a ≡ b
-some_same a b e = cc
-
 before_next : (test : Row → Bool) (r : Row) (rows : List Row) (n : ℕ) → test r ≡ false → ((m : ℕ) (q : Row) → m < n → slice_get rows m ≡ Some q → test q ≡ false)
     → (k : ℕ) (s : Row) → k < suc n → slice_get (r ∷ rows) k ≡ Some s → test s ≡ false
 before_next test r rows n miss f zero s lt e = ap test (sym (some_same r s e)) ∙ miss
@@ -110,15 +105,6 @@ form_same forms.Short forms.Near e = absurd (cc)
 
 abbrev pub serves : Form → Insn → Row → Bool
 serves form x r = same_form r.form form && is_some (found r x)
-
-and_parts : (a b : Bool) → (a && b) ≡ true → (a ≡ true) × (b ≡ true)
-and_parts a b h = (grind arith, grind arith)
-
-and_both : (a b : Bool) → a ≡ true → b ≡ true → (a && b) ≡ true
-and_both a b ea eb = grind arith
-
-never : (b : Bool) → b ≡ true → b ≡ false → ⊥
-never b t f = cc
 
 some_found : (row : Row) (x : Insn) (o : Option Fields) → is_regular row ≡ true → found row x ≡ o → is_some o ≡ true → SpelledSomewhere row x
 some_found row x None regular e s = absurd (cc)
@@ -169,17 +155,11 @@ pub record FirstChosen (find : Row → Option Fields) (rows : List Row) (form : 
 later : (find : Row → Option Fields) (rows : List Row) (form : Form) (c : Chosen) (r : Row) → serves_by find form r ≡ false → FirstChosen find rows form c → FirstChosen find (r ∷ rows) form c
 later find rows form c r miss f = record { n = suc f.n; in_table = f.in_table; same = f.same; is_found = f.is_found; none_before = before_next (serves_by find form) r rows f.n miss f.none_before }
 
-chosen_same : (a b : Chosen) → Some a ≡ Some b → a ≡ b
-chosen_same a b e = cc
-
-none_chosen : (c : Chosen) → None ≡ Some c → ⊥
-none_chosen c e = cc
-
 here : (find : Row → Option Fields) (rows : List Row) (form : Form) (c : Chosen) (r : Row) (o : Option Fields) → find r ≡ o → same_form r.form form ≡ true
     → (chosen_by find rows form ≡ Some c → FirstChosen find rows form c) → or_chosen r o (chosen_by find rows form) ≡ Some c → FirstChosen find (r ∷ rows) form c
 here find rows form c r None eo same rest e = later find rows form c r (ap (λ k. k && is_some (find r)) same ∙ ap is_some eo) (rest e)
 here find rows form c r (Some f) eo same rest e =
-    let s = chosen_same (record { row = r; fields = f }) c e in
+    let s = some_same (record { row = r; fields = f }) c e in
     record {
       n = 0;
       in_table = ap (λ (k : Chosen). Some k.row) s;
@@ -189,7 +169,7 @@ here find rows form c r (Some f) eo same rest e =
     }
 
 pub chosen_first : (find : Row → Option Fields) (rows : List Row) (form : Form) (c : Chosen) → chosen_by find rows form ≡ Some c → FirstChosen find rows form c
-chosen_first find [] form c e = absurd (none_chosen c e)
+chosen_first find [] form c e = absurd (none_some c e)
 chosen_first find (r ∷ rows) form c e = elim (cases_Bool (same_form r.form form)) [
   | inr miss ↦ later find rows form c r (ap (λ k. k && is_some (find r)) miss) (chosen_first find rows form c (sym (ap (λ k. if k then or_chosen r (find r) (chosen_by find rows form) else chosen_by find rows form) miss) ∙ e))
   | inl same ↦ here find rows form c r (find r) refl same (λ h. chosen_first find rows form c h) (sym (ap (λ k. if k then or_chosen r (find r) (chosen_by find rows form) else chosen_by find rows form) same) ∙ e)
@@ -220,21 +200,11 @@ length_is row f a b =
     let c : length p.rm + length p.imm ≡ length q.rm + length q.imm = ap (λ k. k + length p.imm) r ∙ ap (λ k. length q.rm + k) i in
     length_of row p ∙ (ap (λ k. length p.prefixes + (length (rex_bytes p.rex) + (length (escape row.map) + (1 + k)))) c ∙ sym (length_of row q))
 
-list_same : (a b : List ℕ) → Some a ≡ Some b → a ≡ b
-list_same a b e = cc
-
-none_list : (b : List ℕ) → None ≡ Some b → ⊥
-none_list b e = cc
-
-passed : (t : Bool) (a b : List ℕ) → (if t then Some a else None) ≡ Some b → (t ≡ true) × (a ≡ b)
-passed true a b e = (refl, list_same a b e)
-passed false a b e = absurd (none_list b e)
-
 pub chosen_spells : (x : Insn) (at : ℕ) (c : Chosen) (s : List ℕ) → is_regular c.row ≡ true → found c.row x ≡ Some c.fields → spelled_at at (Some c) ≡ Some s → RowSpells c.row s at x
 chosen_spells x at c s regular is_found e =
     let next = (at + length_for c.row c.fields) % 2 ^ 64 in
     let low = address_low (at + length_for c.row c.fields) in
-    let t = passed (reaches c.row c.fields next) (bytes_of c.row (parts_for c.row c.fields next)) s e in
+    let t = through (reaches c.row c.fields next) (bytes_of c.row (parts_for c.row c.fields next)) s e in
     let b = inverse.found_builds c.row x c.fields regular is_found in
     let spelled = spelled_for c.row c.fields next regular b.had low t.0 in
     let len : length s ≡ length_for c.row c.fields = sym (ap length t.1) ∙ length_is c.row c.fields next 0 in
@@ -246,7 +216,7 @@ chosen_spells x at c s regular is_found e =
     }
 
 none_spelled : (at : ℕ) (s : List ℕ) → spelled_at at None ≡ Some s → ⊥
-none_spelled at s e = none_list s e
+none_spelled at s e = none_some s e
 
 by_chosen : (rows : List Row) (form : Form) (x : Insn) (at : ℕ) (s : List ℕ) → list_all is_regular rows ≡ true → (o : Option Chosen) → chosen_by (λ r. found r x) rows form ≡ o → spelled_at at o ≡ Some s
     → (n : ℕ) × (IsCanonicalRow rows form x n × ((row : Row) → slice_get rows n ≡ Some row → RowSpells row s at x))

@@ -26,9 +26,10 @@ use Rattle.rz_isa.specs.Spelling.{Parts, Fits, bit_w, bit_r, bit_x, bit_b, is_me
 use Rattle.rz_isa.specs.Fields.{reg_of, index_of, base_of, sib_mem, base_mem, behind_one, place_of, rm_place, rm_width, reg_field, reg_number, imm_of, rep_of, fields}
 use Rattle.rz_isa.specs.Having.{is_wide, has_width, code_of, is_register, is_first, is_high, is_low_byte, in_reg_field, in_opcode, is_number, is_index, is_memory, names_register, names_memory, has_place, has_cond, has_imm, has_rep, w_needed, x_needed, place_b, b_needed, rex_needed, low_byte_place, high_place, number_in, needs_rex, bars_rex, opcode_of, can_have}
 use Rattle.rz_isa.specs.Regular.{is_regular, is_block, is_exchange}
-use Rattle.rz_isa.proofs.Numbers.{number_less, numbers_1, numbers_2, numbers_full, signed_is_disp, extended_byte, extended_four}
+use Rattle.rz_isa.proofs.Numbers.{number_less, numbers_of, numbers_full, signed_is_disp, extended_byte, extended_four}
 use Rattle.rz_isa.proofs.Again.{can_of}
 use Rattle.rz_isa.proofs.Inverse.{IsRegular, regular_of}
+use Rattle.rz_isa.proofs.Tests.{never}
 
 -- The fields of a spelling are fields that its row can have.
 
@@ -250,9 +251,9 @@ number_below bs m h e = below (number bs) m (subst (λ k. number bs < k) e (numb
 
 pub imm_had : (k : Option ImmKind) (w : Width) (next : ℕ) (bs : List ℕ) → are_bytes bs ≡ true → length bs ≡ imm_len k w → has_imm k w (imm_of k w next bs) ≡ true
 imm_had None w next bs h len = refl
-imm_had (Some imms.Ib) w next bs h len = number_below bs (2 ^ 8) h (numbers_1 bs len)
+imm_had (Some imms.Ib) w next bs h len = number_below bs (2 ^ 8) h (numbers_of bs 1 len)
 imm_had (Some imms.Ibs) w next bs h len = extended_byte bs w h len
-imm_had (Some imms.Iw) w next bs h len = number_below bs (2 ^ 16) h (numbers_2 bs len)
+imm_had (Some imms.Iw) w next bs h len = number_below bs (2 ^ 16) h (numbers_of bs 2 len)
 imm_had (Some imms.Iz) W8 next bs h len = below (extended bs % 2 ^ 8) (2 ^ 8) (omega arith)
 imm_had (Some imms.Iz) W16 next bs h len = below (extended bs % 2 ^ 16) (2 ^ 16) (omega arith)
 imm_had (Some imms.Iz) W32 next bs h len = below (extended bs % 2 ^ 32) (2 ^ 32) (omega arith)
@@ -464,9 +465,6 @@ undemanding _ m o n e = refl
 no_rm : (d : Bool) (r : Option RmRule) → d ≡ true → not (d && is_some r) ≡ true → r ≡ None
 no_rm d None e h = refl
 no_rm d (Some r) e h = absurd (never d e (grind arith))
-  where
-    never : (d : Bool) → d ≡ true → d ≡ false → ⊥
-    never d t f = cc
 
 no_bytes : (digit : Option ℕ) (bs : List ℕ) → rm_fits None digit bs ≡ true → bs ≡ []
 no_bytes digit [] h = refl

@@ -12,6 +12,7 @@ use Rattle.rz_isa.specs.Spelling.{Parts, bytes_of, Fits, times, prefixes_fit, is
 use Rattle.rz_isa.specs.Reading.{Head, Opcode, head_at}
 use Rattle.rz_isa.specs.Table.{opcode_plain, digit_ruled, each_from, is_plain, same_map, clash_at, shared_clash, excludes, all_exclude}
 use Rattle.rz_isa.proofs.Front.{head_of_spelling}
+use Rattle.rz_isa.proofs.Tests.{some_same}
 
 -- ---- fronts of equal length
 
@@ -72,16 +73,13 @@ pub record SameHead (r s : Row) (p q : Parts) (m n : List ℕ) : Type 0 where
   pub opcode : p.opcode ≡ q.opcode
   pub rest : p.rm ++ (p.imm ++ m) ≡ q.rm ++ (q.imm ++ n)
 
-pub opcode_same : (a b : Opcode) → Some a ≡ Some b → a ≡ b
-opcode_same a b same = cc
-
 pub same_head : (r s : Row) (p q : Parts) (m n : List ℕ) → Fits r p → Fits s q → opcode_plain r.map p.opcode ≡ true → opcode_plain s.map q.opcode ≡ true →
     bytes_of r p ++ m ≡ bytes_of s q ++ n → SameHead r s p q m n
 same_head r s p q m n fp fq pp pq same =
     let h = head_of_spelling r p m fp pp in
     let k = head_of_spelling s q n fq pq in
     let e = sym h ∙ (ap head_at same ∙ k) in
-    let o = opcode_same _ _ (ap (λ (a : Head). a.opcode) e) in
+    let o = some_same _ _ (ap (λ (a : Head). a.opcode) e) in
     record {
       prefixes = ap (λ (a : Head). a.prefixes) e;
       rex = ap (λ (a : Head). a.rex) e;
@@ -139,7 +137,7 @@ shared_apart r s o fr fs none = elim (cases_Bool (shared_clash r s)) [
   | inl y ↦ (let c = shared_clash_at r s o y fr fs in absurd (cc))
 ]
 
-pub same_maps : (a b : OpMap) → a ≡ b → not (same_map a b) ≡ false
+pub same_maps : (a b : OpMap) → a ≡ b → same_map a b ≡ true
 same_maps maps.One maps.One e = refl
 same_maps maps.Two maps.Two e = refl
 same_maps maps.One maps.Two e = absurd (cc)
@@ -159,7 +157,7 @@ no_common r s p q m n ir is fp fq same =
     let bo = subst (λ o. is_met (b_demand s.op s.map o) (bit_b q.rex) ≡ true) (sym h.opcode) fq.b in
     let bs = subst (λ x. is_met (b_demand s.op s.map p.opcode) (bit_b x) ≡ true) (sym h.rex) bo in
     ors _ _ _
-    (same_maps r.map s.map h.map)
+    (ap not (same_maps r.map s.map h.map))
     (digits_apart r.digit s.digit r.rm s.rm p.rm q.rm _ _ ir.ruled is.ruled fp.rm fq.rm h.rest)
     (shared_apart r s p.opcode fp.opcode os (ors _ _ _
     (clash_not (f3_demand r.f3) (f3_demand s.f3) (times 0xf3 p.prefixes) (f3_met r p.prefixes fp.prefixes) fs)

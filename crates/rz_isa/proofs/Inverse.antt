@@ -19,9 +19,10 @@ use Rattle.rz_isa.specs.Fields.{build_op}
 use Rattle.rz_isa.specs.Having.{has_imm, in_opcode, can_have}
 use Rattle.rz_isa.specs.Finding.{least, found_in, if_can, found}
 use Rattle.rz_isa.specs.Regular.{operands_apart, imm_suits, width_suits, stands_alone, is_exchange, is_block, digit_small, rule_small, is_regular}
-use Rattle.rz_isa.proofs.Built.{imm_small, through, built}
+use Rattle.rz_isa.proofs.Built.{imm_small, built}
 use Rattle.rz_isa.proofs.Again.{had_of, can_of, again}
 use Rattle.rz_isa.proofs.Lesser.{below_had}
+use Rattle.rz_isa.proofs.Tests.{through}
 
 -- ---- what is asked of a row, one by one
 

@@ -28,6 +28,7 @@ use Rattle.rz_isa.specs.Having.{is_byte, has_width, is_register, is_first, is_hi
 use Rattle.rz_isa.specs.Finding.{least_width, least_place}
 use Rattle.rz_isa.proofs.Built.{first_is}
 use Rattle.rz_isa.proofs.Again.{Below, Had}
+use Rattle.rz_isa.proofs.Tests.{never}
 
 -- Lesser fields can be had where the fields that they are below can.
 
@@ -299,9 +300,6 @@ least_low (Some (rules.Fixed b)) w = first_low w
 
 first_only : (w : Width) (r : Reg) → is_first r ≡ true → is_low_byte w (regs.R (number_of r)) ≡ false
 first_only w r h = ap (λ k. is_low_byte w (regs.R (number_of k))) (sym (first_is r h)) ∙ first_low w
-
-never : (b : Bool) → b ≡ true → b ≡ false → ⊥
-never b t f = cc
 
 pub low_kept : (row : Row) (g f : Fields) → Had row f → Below row g f → is_low_byte g.w g.reg ≡ true → is_low_byte f.w f.reg ≡ true
 low_kept row g f h b low =

@@ -1,3 +1,4 @@
+pub mod Tests
 pub mod Front
 pub mod Exclusion
 pub mod OneRow
@@ -14,3 +15,4 @@ pub mod Parts
 pub mod Whole
 pub mod Choice
 pub mod Served
+pub mod Untaken

@@ -1,8 +1,9 @@
-use Rattle.std.proofs.Common.{ℕ, pos, negsuc, ◌≡◌, ◌+◌, ◌-◌, ◌*◌, ◌%◌, ◌^◌, ◌<◌, ◌≤◌, ◌-ℤ◌, refl, ap, sym, ◌∙◌, subst, arith, List, [], ◌∷◌, length, true, inl, inr}
+use Rattle.std.proofs.Common.{ℕ, zero, suc, pos, negsuc, ◌≡◌, ◌+◌, ◌-◌, ◌*◌, ◌%◌, ◌^◌, ◌<◌, ◌≤◌, ◌-ℤ◌, refl, ap, sym, ◌∙◌, subst, arith, List, [], ◌∷◌, length, true, inl, inr}
 use Rattle.std.specs.Prelude.{nat_lt, if◌then◌else◌}
 use Rattle.std.proofs.lemmas.Bool.{cases_Bool}
 use Rattle.std.proofs.lemmas.Bool.Decides.{nat_tests}
 use Rattle.std.proofs.lemmas.Int.{ints}
+use Rattle.std.proofs.Math.Nat.{pow-succ'}
 use Rattle.rz_num.specs.declared.width.Width.{Width}
 use Rattle.rz_num.specs.declared.width.Width.TheVariants.{W8, W16, W32, W64}
 use Rattle.rz_num.specs.Width.{size}
@@ -19,41 +20,11 @@ number_less (b ∷ bs) h =
     let rest = number_less bs (grind arith) in
     omega arith
 
-pub numbers_0 : (bs : List ℕ) → length bs ≡ 0 → numbers bs ≡ 1
-numbers_0 [] e = refl
-numbers_0 (a ∷ bs) e = absurd (omega arith)
-
-pub numbers_1 : (bs : List ℕ) → length bs ≡ 1 → numbers bs ≡ 2 ^ 8
-numbers_1 [] e = absurd (omega arith)
-numbers_1 (a ∷ bs) e = ap (λ k. 256 * k) (numbers_0 bs (omega arith))
-
-pub numbers_2 : (bs : List ℕ) → length bs ≡ 2 → numbers bs ≡ 2 ^ 16
-numbers_2 [] e = absurd (omega arith)
-numbers_2 (a ∷ bs) e = ap (λ k. 256 * k) (numbers_1 bs (omega arith))
-
-pub numbers_3 : (bs : List ℕ) → length bs ≡ 3 → numbers bs ≡ 2 ^ 24
-numbers_3 [] e = absurd (omega arith)
-numbers_3 (a ∷ bs) e = ap (λ k. 256 * k) (numbers_2 bs (omega arith))
-
-pub numbers_4 : (bs : List ℕ) → length bs ≡ 4 → numbers bs ≡ 2 ^ 32
-numbers_4 [] e = absurd (omega arith)
-numbers_4 (a ∷ bs) e = ap (λ k. 256 * k) (numbers_3 bs (omega arith))
-
-pub numbers_5 : (bs : List ℕ) → length bs ≡ 5 → numbers bs ≡ 2 ^ 40
-numbers_5 [] e = absurd (omega arith)
-numbers_5 (a ∷ bs) e = ap (λ k. 256 * k) (numbers_4 bs (omega arith))
-
-pub numbers_6 : (bs : List ℕ) → length bs ≡ 6 → numbers bs ≡ 2 ^ 48
-numbers_6 [] e = absurd (omega arith)
-numbers_6 (a ∷ bs) e = ap (λ k. 256 * k) (numbers_5 bs (omega arith))
-
-pub numbers_7 : (bs : List ℕ) → length bs ≡ 7 → numbers bs ≡ 2 ^ 56
-numbers_7 [] e = absurd (omega arith)
-numbers_7 (a ∷ bs) e = ap (λ k. 256 * k) (numbers_6 bs (omega arith))
-
-pub numbers_8 : (bs : List ℕ) → length bs ≡ 8 → numbers bs ≡ 2 ^ 64
-numbers_8 [] e = absurd (omega arith)
-numbers_8 (a ∷ bs) e = ap (λ k. 256 * k) (numbers_7 bs (omega arith))
+pub numbers_of : (bs : List ℕ) (n : ℕ) → length bs ≡ n → numbers bs ≡ 256 ^ n
+numbers_of [] zero e = refl
+numbers_of [] (suc n) e = absurd (omega arith)
+numbers_of (b ∷ bs) zero e = absurd (omega arith)
+numbers_of (b ∷ bs) (suc n) e = ap (λ k. 256 * k) (numbers_of bs n (omega arith)) ∙ sym (pow-succ' 256 n)
 
 pub numbers_small : (bs : List ℕ) → length bs ≤ 4 → numbers bs ≤ 2 ^ 32
 numbers_small [] h = omega arith
@@ -64,10 +35,10 @@ numbers_small (a ∷ b ∷ c ∷ d ∷ []) h = omega arith
 numbers_small (a ∷ b ∷ c ∷ d ∷ e ∷ bs) h = absurd (omega arith)
 
 pub numbers_full : (w : Width) (bs : List ℕ) → length bs ≡ full_len w → numbers bs ≡ size w
-numbers_full W8 bs e = numbers_1 bs e
-numbers_full W16 bs e = numbers_2 bs e
-numbers_full W32 bs e = numbers_4 bs e
-numbers_full W64 bs e = numbers_8 bs e
+numbers_full W8 bs e = numbers_of bs 1 e
+numbers_full W16 bs e = numbers_of bs 2 e
+numbers_full W32 bs e = numbers_of bs 4 e
+numbers_full W64 bs e = numbers_of bs 8 e
 
 -- ---- a signed number of at most four bytes has 32 bits
 
@@ -98,7 +69,7 @@ extended_high half top n k e le lt = grind (arith, nat_tests)
 
 pub extended_byte : (bs : List ℕ) (w : Width) → are_bytes bs ≡ true → length bs ≡ 1 → is_extended (2 ^ 7) (size w) (extended bs % size w) ≡ true
 extended_byte bs w h one =
-    let m = numbers_1 bs one in
+    let m = numbers_of bs 1 one in
     let lt = number_less bs h in
     elim (cases_Bool (is_positive bs)) [
       | inl y ↦ subst (λ k. is_extended (2 ^ 7) (size w) ((if k then number bs else number bs + (2 ^ 64 - numbers bs)) % size w) ≡ true) (sym y) (low w (number bs) (grind (arith, nat_tests)))
@@ -121,7 +92,7 @@ extended_byte bs w h one =
 
 pub extended_four : (bs : List ℕ) → are_bytes bs ≡ true → length bs ≡ 4 → is_extended (2 ^ 31) (2 ^ 64) (extended bs % 2 ^ 64) ≡ true
 extended_four bs h four =
-    let m = numbers_4 bs four in
+    let m = numbers_of bs 4 four in
     let lt = number_less bs h in
     elim (cases_Bool (is_positive bs)) [
       | inl y ↦ subst (λ k. is_extended (2 ^ 31) (2 ^ 64) ((if k then number bs else number bs + (2 ^ 64 - numbers bs)) % 2 ^ 64) ≡ true) (sym y) (low (number bs) (grind (arith, nat_tests)))

@@ -1,6 +1,7 @@
-use Rattle.std.proofs.Common.{ℕ, ◌≡◌, ◌≤◌, ◌<◌, List, [], ◌∷◌, ◌++◌, Some, refl, ap, sym, ◌∙◌, subst, arith, length, Bool, true, false, inl, inr, length-append}
+use Rattle.std.proofs.Common.{ℕ, ◌≡◌, ◌≤◌, ◌<◌, List, [], ◌++◌, ap, sym, ◌∙◌, subst, arith, length, true, inl, inr, length-append}
 use Rattle.std.specs.Prelude.{slice_get, nat_lt}
 use Rattle.std.specs.List.{list_all}
+use Rattle.std.proofs.lemmas.List.{append-nil}
 use Rattle.std.proofs.lemmas.Bool.{cases_Bool}
 use Rattle.std.proofs.lemmas.Bool.Decides.{nat_tests}
 use Rattle.std.proofs.lemmas.Grind.{common_steps}
@@ -8,20 +9,11 @@ use Rattle.rz_isa.specs.declared.rows.Row.{Row}
 use Rattle.rz_isa.specs.Spelling.{Parts, bytes_of, SpelledBy}
 use Rattle.rz_isa.specs.Table.{is_plain, all_exclude, OneRow, Lengths}
 use Rattle.rz_isa.proofs.Exclusion.{plain_row, list_all_get, exclude_get, no_common, one_reading}
+use Rattle.rz_isa.proofs.Tests.{never, some_same}
 
 -- what the two spellings say of the parts' bytes
 pub parts_meet : (r q : Row) (a b : Parts) (s more : List ℕ) → SpelledBy r a s → SpelledBy q b (s ++ more) → bytes_of r a ++ more ≡ bytes_of q b ++ []
 parts_meet r q a b s more fa fb = ap (λ k. k ++ more) (sym fa.bytes) ∙ (fb.bytes ∙ sym (append-nil (bytes_of q b)))
-  where
-    append-nil : (xs : List ℕ) → xs ++ [] ≡ xs
-    append-nil [] = refl
-    append-nil (x ∷ xs) = ap (λ k. x ∷ k) (append-nil xs)
-
-some_same : (a b : Row) → Some a ≡ Some b → a ≡ b
-some_same a b e = cc
-
-never : (b : Bool) → b ≡ true → b ≡ false → ⊥
-never b t f = cc
 
 pub one_row : (rows : List Row) → list_all is_plain rows ≡ true → all_exclude rows ≡ true → OneRow rows
 one_row rows plain exclude n m r q s more a b at_n at_m fa fb =

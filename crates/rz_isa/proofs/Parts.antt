@@ -26,6 +26,7 @@ use Rattle.rz_isa.proofs.Built.{first_is}
 use Rattle.rz_isa.proofs.Again.{Had}
 use Rattle.rz_isa.proofs.Complete.{if_true, if_false, if_both}
 use Rattle.rz_isa.proofs.Sound.{is_reg_place, PlaceRead, read_register, read_absolute, read_memory}
+use Rattle.rz_isa.proofs.Tests.{and_both}
 
 -- The canonical parts fit their row, and they are read as the fields.
 
@@ -47,9 +48,6 @@ f3_met f3s.No rep = refl
 f3_met f3s.Allowed rep = refl
 f3_met f3s.Required rep = refl
 f3_met f3s.Repeats rep = refl
-
-and_both : (a b : Bool) → a ≡ true → b ≡ true → (a && b) ≡ true
-and_both a b ea eb = grind arith
 
 prefixes_by : (row : Row) (a b : Bool) → (a ≡ true → nat_le 1 (most_66 row) ≡ true) → is_met (f3_demand row.f3) (if b then 1 else 0) ≡ true → prefixes_fit row (prefixes_for a b) ≡ true
 prefixes_by row true true m f = and_both _ _ (and_both _ _ (m refl) refl) f

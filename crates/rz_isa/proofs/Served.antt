@@ -1,7 +1,6 @@
 use Rattle.std.proofs.Common.{ℕ, zero, suc, ◌≡◌, ◌<◌, ◌+◌, ◌%◌, ◌^◌, refl, ap, sym, ◌∙◌, subst, arith, List, [], ◌∷◌, Bool, true, false, not, ◌&&◌, Option, Some, None}
 use Rattle.std.specs.Prelude.{nat_lt, IsSome, slice_get, is_some, if◌then◌else◌}
 use Rattle.std.specs.Option.{option_and_then}
-use Rattle.std.proofs.lemmas.Bool.Decides.{nat_tests}
 use Rattle.rz_flags.specs.declared.Cond.{Cond}
 use Rattle.rz_flags.specs.declared.Cond.TheVariants as conds
 use Rattle.rz_flags.specs.Cond.{number_of}
@@ -21,7 +20,7 @@ use Rattle.rz_isa.specs.declared.instruction.Insn.TheVariants as insns
 use Rattle.rz_isa.specs.declared.instruction.Reg.TheVariants as regs
 use Rattle.rz_isa.specs.declared.instruction.Place.TheVariants as places
 use Rattle.rz_isa.specs.declared.instruction.Operand.TheVariants as operands
-use Rattle.rz_isa.specs.Emitted.{near, close}
+use Rattle.rz_isa.specs.Emitted.{near, close, Emits}
 use Rattle.rz_isa.specs.declared.rows.Row.{Row}
 use Rattle.rz_isa.specs.declared.instruction.Insn.{Insn}
 use Rattle.rz_isa.specs.declared.spelled.Fields.{Fields}
@@ -31,6 +30,7 @@ use Rattle.rz_isa.specs.Spelling.{bytes_of}
 use Rattle.rz_isa.specs.Canonical.{parts_for, reaches, length_for, same_form, Chosen, or_chosen, chosen_by, chosen, spelled_at, canonical}
 use Rattle.rz_isa.proofs.Again.{Had, can_of}
 use Rattle.rz_isa.proofs.Choice.{serves_by}
+use Rattle.rz_isa.proofs.Tests.{below_test, some_same, passed}
 
 -- How to show, for a table whose rows are known, that an instruction has a canonical spelling.
 
@@ -39,12 +39,6 @@ abbrev pub none_below : (Row → Bool) → List Row → ℕ → Bool
 none_below test [] k = true
 none_below test (r ∷ rows) zero = true
 none_below test (r ∷ rows) (suc k) = not (test r) && none_below test rows k
-
-some_row : (a b : Row) → Some a ≡ Some b → a ≡ b
-some_row a b e = cc
-
-none_row : (a : Row) → None ≡ Some a → ⊥
-none_row a e = cc
 
 and_parts : (a b : Bool) → (not a && b) ≡ true → (a ≡ false) × (b ≡ true)
 and_parts a b h = (grind arith, grind arith)
@@ -61,7 +55,7 @@ pub chosen_at : (find : Row → Option Fields) (rows : List Row) (form : Form) (
     → same_form row.form form ≡ true → find row ≡ Some g → chosen_by find rows form ≡ Some (record { row = row; fields = g })
 chosen_at find [] form k row g at none same e = absurd (grind arith)
 chosen_at find (r ∷ rows) form zero row g at none same e =
-    let s = some_row r row at in
+    let s = some_same r row at in
     let f : same_form r.form form ≡ true = ap (λ (x : Row). same_form x.form form) s ∙ same in
     let o : find r ≡ Some g = ap find s ∙ e in
     ap (λ k. if k then or_chosen r (find r) (chosen_by find rows form) else chosen_by find rows form) f
@@ -79,11 +73,22 @@ spelled_reaches at c h = ap (λ k. is_some (if k then Some (bytes_of c.row (part
 pub canonical_when : (rows : List Row) (x : Insn) (at : ℕ) (form : Form) (c : Chosen) → chosen rows form x ≡ Some c → reaches c.row c.fields ((at + length_for c.row c.fields) % 2 ^ 64) ≡ true → IsSome (canonical rows x at form)
 canonical_when rows x at form c e h = subst IsSome (sym (ap (spelled_at at) e)) (spelled_reaches at c h)
 
--- the row at a place of the table, where no row before it serves
-pub served : (rows : List Row) (x : Insn) (at : ℕ) (form : Form) (k : ℕ) (row : Row) (g : Fields) → slice_get rows k ≡ Some row → none_below (serves_by (λ q. found q x) form) rows k ≡ true
+-- the row of the number, where no row before it passes the test
+abbrev pub first_at : (Row → Bool) → List Row → ℕ → Option Row
+first_at test rows k = if none_below test rows k then slice_get rows k else None
+
+-- the row has the number, and no row before it spells the instruction
+abbrev pub Serves : List Row → Form → Insn → ℕ → Row → Type 0
+Serves rows form x k row = first_at (serves_by (λ q. found q x) form) rows k ≡ Some row
+
+first_parts : (test : Row → Bool) (rows : List Row) (k : ℕ) (row : Row) → first_at test rows k ≡ Some row → (none_below test rows k ≡ true) × (slice_get rows k ≡ Some row)
+first_parts test rows k row e = passed (none_below test rows k) (slice_get rows k) row e
+
+pub served : (rows : List Row) (x : Insn) (at : ℕ) (form : Form) (k : ℕ) (row : Row) (g : Fields) → Serves rows form x k row
     → same_form row.form form ≡ true → found_in row.op x (least row) ≡ Some g → Had row g → reaches row g ((at + length_for row g) % 2 ^ 64) ≡ true → IsSome (canonical rows x at form)
-served rows x at form k row g in_table none same e had h =
-    canonical_when rows x at form (record { row = row; fields = g }) (chosen_at (λ q. found q x) rows form k row g in_table none same (found_when row x g e (can_of row g had))) h
+served rows x at form k row g s same e had h =
+    let f = first_parts (serves_by (λ q. found q x) form) rows k row s in
+    canonical_when rows x at form (record { row = row; fields = g }) (chosen_at (λ q. found q x) rows form k row g f.1 f.0 same (found_when row x g e (can_of row g had))) h
 
 pub cond_low : (c : Cond) → nat_lt (number_of c) 16 ≡ true
 cond_low conds.O = refl
@@ -102,9 +107,6 @@ cond_low conds.L = refl
 cond_low conds.GE = refl
 cond_low conds.LE = refl
 cond_low conds.G = refl
-
-pub below_test : (n m : ℕ) → n < m → nat_lt n m ≡ true
-below_test n m lt = grind (arith, nat_tests)
 
 -- ---- the rows of the instructions that a written file is made of
 
@@ -130,48 +132,83 @@ jmp_row = lone_row maps.One 0xe9 (Some imms.J32) forms.Near ops.Jmp
 abbrev pub jmp_short_row : Row
 jmp_short_row = lone_row maps.One 0xeb (Some imms.J8) forms.Short ops.Jmp
 
--- the row is at the place, and no row before it spells the instruction
-pub record Serves (rows : List Row) (form : Form) (x : Insn) (k : ℕ) (row : Row) : Type 0 where
-  pub in_table : slice_get rows k ≡ Some row
-  pub first : none_below (serves_by (λ q. found q x) form) rows k ≡ true
-
-pub emits_mov : (rows : List Row) (k r n at : ℕ) → Serves rows forms.Near (insns.Mov W32 (places.Reg (regs.R r)) (operands.Imm n)) k mov_row → r < 16 → n < 2 ^ 32
+emits_mov : (rows : List Row) (k r n at : ℕ) → Serves rows forms.Near (insns.Mov W32 (places.Reg (regs.R r)) (operands.Imm n)) k mov_row → r < 16 → n < 2 ^ 32
     → IsSome (canonical rows (insns.Mov W32 (places.Reg (regs.R r)) (operands.Imm n)) at forms.Near)
-emits_mov rows k r n at s lr ln = served rows (insns.Mov W32 (places.Reg (regs.R r)) (operands.Imm n)) at forms.Near k mov_row (record (least mov_row) { w = W32; reg = regs.R r; imm = n }) s.in_table s.first refl refl
+emits_mov rows k r n at s lr ln = served rows (insns.Mov W32 (places.Reg (regs.R r)) (operands.Imm n)) at forms.Near k mov_row (record (least mov_row) { w = W32; reg = regs.R r; imm = n }) s refl refl
     (record { w = refl; reg = below_test r 16 lr; rm = refl; cond = refl; imm = below_test n (2 ^ 32) ln; rep = refl; rex = refl; b = refl }) refl
 
-pub emits_jcc : (rows : List Row) (k : ℕ) (c : Cond) (t at : ℕ) → Serves rows forms.Near (insns.Jcc c t) k jcc_row → t < 2 ^ 64 → near at 6 t ≡ true → IsSome (canonical rows (insns.Jcc c t) at forms.Near)
-emits_jcc rows k c t at s lt h = served rows (insns.Jcc c t) at forms.Near k jcc_row (record (least jcc_row) { cond = number_of c; imm = t }) s.in_table s.first refl refl
+emits_jcc : (rows : List Row) (k : ℕ) (c : Cond) (t at : ℕ) → Serves rows forms.Near (insns.Jcc c t) k jcc_row → t < 2 ^ 64 → near at 6 t ≡ true → IsSome (canonical rows (insns.Jcc c t) at forms.Near)
+emits_jcc rows k c t at s lt h = served rows (insns.Jcc c t) at forms.Near k jcc_row (record (least jcc_row) { cond = number_of c; imm = t }) s refl refl
     (record { w = refl; reg = refl; rm = refl; cond = cond_low c; imm = below_test t (2 ^ 64) lt; rep = refl; rex = refl; b = refl }) h
 
-pub emits_jcc_short : (rows : List Row) (k : ℕ) (c : Cond) (t at : ℕ) → Serves rows forms.Short (insns.Jcc c t) k jcc_short_row → t < 2 ^ 64 → close at 2 t ≡ true → IsSome (canonical rows (insns.Jcc c t) at forms.Short)
-emits_jcc_short rows k c t at s lt h = served rows (insns.Jcc c t) at forms.Short k jcc_short_row (record (least jcc_short_row) { cond = number_of c; imm = t }) s.in_table s.first refl refl
+emits_jcc_short : (rows : List Row) (k : ℕ) (c : Cond) (t at : ℕ) → Serves rows forms.Short (insns.Jcc c t) k jcc_short_row → t < 2 ^ 64 → close at 2 t ≡ true → IsSome (canonical rows (insns.Jcc c t) at forms.Short)
+emits_jcc_short rows k c t at s lt h = served rows (insns.Jcc c t) at forms.Short k jcc_short_row (record (least jcc_short_row) { cond = number_of c; imm = t }) s refl refl
     (record { w = refl; reg = refl; rm = refl; cond = cond_low c; imm = below_test t (2 ^ 64) lt; rep = refl; rex = refl; b = refl }) h
 
-pub emits_jrcxz : (rows : List Row) (k t at : ℕ) → Serves rows forms.Near (insns.Jrcxz t) k jrcxz_row → t < 2 ^ 64 → close at 2 t ≡ true → IsSome (canonical rows (insns.Jrcxz t) at forms.Near)
-emits_jrcxz rows k t at s lt h = served rows (insns.Jrcxz t) at forms.Near k jrcxz_row (record (least jrcxz_row) { imm = t }) s.in_table s.first refl refl
+emits_jrcxz : (rows : List Row) (k t at : ℕ) → Serves rows forms.Near (insns.Jrcxz t) k jrcxz_row → t < 2 ^ 64 → close at 2 t ≡ true → IsSome (canonical rows (insns.Jrcxz t) at forms.Near)
+emits_jrcxz rows k t at s lt h = served rows (insns.Jrcxz t) at forms.Near k jrcxz_row (record (least jrcxz_row) { imm = t }) s refl refl
     (record { w = refl; reg = refl; rm = refl; cond = refl; imm = below_test t (2 ^ 64) lt; rep = refl; rex = refl; b = refl }) h
 
-pub emits_jmp : (rows : List Row) (k t at : ℕ) → Serves rows forms.Near (insns.Jmp t) k jmp_row → t < 2 ^ 64 → near at 5 t ≡ true → IsSome (canonical rows (insns.Jmp t) at forms.Near)
-emits_jmp rows k t at s lt h = served rows (insns.Jmp t) at forms.Near k jmp_row (record (least jmp_row) { imm = t }) s.in_table s.first refl refl
+emits_jmp : (rows : List Row) (k t at : ℕ) → Serves rows forms.Near (insns.Jmp t) k jmp_row → t < 2 ^ 64 → near at 5 t ≡ true → IsSome (canonical rows (insns.Jmp t) at forms.Near)
+emits_jmp rows k t at s lt h = served rows (insns.Jmp t) at forms.Near k jmp_row (record (least jmp_row) { imm = t }) s refl refl
     (record { w = refl; reg = refl; rm = refl; cond = refl; imm = below_test t (2 ^ 64) lt; rep = refl; rex = refl; b = refl }) h
 
-pub emits_jmp_short : (rows : List Row) (k t at : ℕ) → Serves rows forms.Short (insns.Jmp t) k jmp_short_row → t < 2 ^ 64 → close at 2 t ≡ true → IsSome (canonical rows (insns.Jmp t) at forms.Short)
-emits_jmp_short rows k t at s lt h = served rows (insns.Jmp t) at forms.Short k jmp_short_row (record (least jmp_short_row) { imm = t }) s.in_table s.first refl refl
+emits_jmp_short : (rows : List Row) (k t at : ℕ) → Serves rows forms.Short (insns.Jmp t) k jmp_short_row → t < 2 ^ 64 → close at 2 t ≡ true → IsSome (canonical rows (insns.Jmp t) at forms.Short)
+emits_jmp_short rows k t at s lt h = served rows (insns.Jmp t) at forms.Short k jmp_short_row (record (least jmp_short_row) { imm = t }) s refl refl
     (record { w = refl; reg = refl; rm = refl; cond = refl; imm = below_test t (2 ^ 64) lt; rep = refl; rex = refl; b = refl }) h
 
-pub emits_syscall : (rows : List Row) (k at : ℕ) → Serves rows forms.Near insns.Syscall k (lone_row maps.Two 0x05 None forms.Near ops.Syscall) → IsSome (canonical rows insns.Syscall at forms.Near)
-emits_syscall rows k at s = served rows insns.Syscall at forms.Near k (lone_row maps.Two 0x05 None forms.Near ops.Syscall) (least (lone_row maps.Two 0x05 None forms.Near ops.Syscall)) s.in_table s.first refl refl
+emits_syscall : (rows : List Row) (k at : ℕ) → Serves rows forms.Near insns.Syscall k (lone_row maps.Two 0x05 None forms.Near ops.Syscall) → IsSome (canonical rows insns.Syscall at forms.Near)
+emits_syscall rows k at s = served rows insns.Syscall at forms.Near k (lone_row maps.Two 0x05 None forms.Near ops.Syscall) (least (lone_row maps.Two 0x05 None forms.Near ops.Syscall)) s refl refl
     (record { w = refl; reg = refl; rm = refl; cond = refl; imm = refl; rep = refl; rex = refl; b = refl }) refl
 
-pub emits_ud2 : (rows : List Row) (k at : ℕ) → Serves rows forms.Near insns.Ud2 k (lone_row maps.Two 0x0b None forms.Near ops.Ud2) → IsSome (canonical rows insns.Ud2 at forms.Near)
-emits_ud2 rows k at s = served rows insns.Ud2 at forms.Near k (lone_row maps.Two 0x0b None forms.Near ops.Ud2) (least (lone_row maps.Two 0x0b None forms.Near ops.Ud2)) s.in_table s.first refl refl
+emits_ud2 : (rows : List Row) (k at : ℕ) → Serves rows forms.Near insns.Ud2 k (lone_row maps.Two 0x0b None forms.Near ops.Ud2) → IsSome (canonical rows insns.Ud2 at forms.Near)
+emits_ud2 rows k at s = served rows insns.Ud2 at forms.Near k (lone_row maps.Two 0x0b None forms.Near ops.Ud2) (least (lone_row maps.Two 0x0b None forms.Near ops.Ud2)) s refl refl
     (record { w = refl; reg = refl; rm = refl; cond = refl; imm = refl; rep = refl; rex = refl; b = refl }) refl
 
-pub emits_hlt : (rows : List Row) (k at : ℕ) → Serves rows forms.Near insns.Hlt k (lone_row maps.One 0xf4 None forms.Near ops.Hlt) → IsSome (canonical rows insns.Hlt at forms.Near)
-emits_hlt rows k at s = served rows insns.Hlt at forms.Near k (lone_row maps.One 0xf4 None forms.Near ops.Hlt) (least (lone_row maps.One 0xf4 None forms.Near ops.Hlt)) s.in_table s.first refl refl
+emits_hlt : (rows : List Row) (k at : ℕ) → Serves rows forms.Near insns.Hlt k (lone_row maps.One 0xf4 None forms.Near ops.Hlt) → IsSome (canonical rows insns.Hlt at forms.Near)
+emits_hlt rows k at s = served rows insns.Hlt at forms.Near k (lone_row maps.One 0xf4 None forms.Near ops.Hlt) (least (lone_row maps.One 0xf4 None forms.Near ops.Hlt)) s refl refl
     (record { w = refl; reg = refl; rm = refl; cond = refl; imm = refl; rep = refl; rex = refl; b = refl }) refl
 
-pub emits_int3 : (rows : List Row) (k at : ℕ) → Serves rows forms.Near insns.Int3 k (lone_row maps.One 0xcc None forms.Near ops.Int3) → IsSome (canonical rows insns.Int3 at forms.Near)
-emits_int3 rows k at s = served rows insns.Int3 at forms.Near k (lone_row maps.One 0xcc None forms.Near ops.Int3) (least (lone_row maps.One 0xcc None forms.Near ops.Int3)) s.in_table s.first refl refl
+emits_int3 : (rows : List Row) (k at : ℕ) → Serves rows forms.Near insns.Int3 k (lone_row maps.One 0xcc None forms.Near ops.Int3) → IsSome (canonical rows insns.Int3 at forms.Near)
+emits_int3 rows k at s = served rows insns.Int3 at forms.Near k (lone_row maps.One 0xcc None forms.Near ops.Int3) (least (lone_row maps.One 0xcc None forms.Near ops.Int3)) s refl refl
     (record { w = refl; reg = refl; rm = refl; cond = refl; imm = refl; rep = refl; rex = refl; b = refl }) refl
+
+-- ---- all of them, by the numbers of their rows in a table
+
+pub record RowNumbers : Type 0 where
+  pub mov : ℕ
+  pub jcc : ℕ
+  pub jcc_short : ℕ
+  pub jrcxz : ℕ
+  pub jmp : ℕ
+  pub jmp_short : ℕ
+  pub syscall : ℕ
+  pub ud2 : ℕ
+  pub hlt : ℕ
+  pub int3 : ℕ
+
+pub record Serving (rows : List Row) (k : RowNumbers) : Type 0 where
+  pub mov : (r n : ℕ) → Serves rows forms.Near (insns.Mov W32 (places.Reg (regs.R r)) (operands.Imm n)) k.mov mov_row
+  pub jcc : (c : Cond) (t : ℕ) → Serves rows forms.Near (insns.Jcc c t) k.jcc jcc_row
+  pub jcc_short : (c : Cond) (t : ℕ) → Serves rows forms.Short (insns.Jcc c t) k.jcc_short jcc_short_row
+  pub jrcxz : (t : ℕ) → Serves rows forms.Near (insns.Jrcxz t) k.jrcxz jrcxz_row
+  pub jmp : (t : ℕ) → Serves rows forms.Near (insns.Jmp t) k.jmp jmp_row
+  pub jmp_short : (t : ℕ) → Serves rows forms.Short (insns.Jmp t) k.jmp_short jmp_short_row
+  pub syscall : Serves rows forms.Near insns.Syscall k.syscall (lone_row maps.Two 0x05 None forms.Near ops.Syscall)
+  pub ud2 : Serves rows forms.Near insns.Ud2 k.ud2 (lone_row maps.Two 0x0b None forms.Near ops.Ud2)
+  pub hlt : Serves rows forms.Near insns.Hlt k.hlt (lone_row maps.One 0xf4 None forms.Near ops.Hlt)
+  pub int3 : Serves rows forms.Near insns.Int3 k.int3 (lone_row maps.One 0xcc None forms.Near ops.Int3)
+
+pub emits : (rows : List Row) (k : RowNumbers) → Serving rows k → Emits rows
+emits rows k s = record {
+  mov = λ r n at. emits_mov rows k.mov r n at (s.mov r n);
+  jcc = λ c t at. emits_jcc rows k.jcc c t at (s.jcc c t);
+  jcc_short = λ c t at. emits_jcc_short rows k.jcc_short c t at (s.jcc_short c t);
+  jrcxz = λ t at. emits_jrcxz rows k.jrcxz t at (s.jrcxz t);
+  jmp = λ t at. emits_jmp rows k.jmp t at (s.jmp t);
+  jmp_short = λ t at. emits_jmp_short rows k.jmp_short t at (s.jmp_short t);
+  syscall = λ at. emits_syscall rows k.syscall at s.syscall;
+  ud2 = λ at. emits_ud2 rows k.ud2 at s.ud2;
+  hlt = λ at. emits_hlt rows k.hlt at s.hlt;
+  int3 = λ at. emits_int3 rows k.int3 at s.int3;
+}

@@ -28,14 +28,9 @@ use Rattle.rz_isa.proofs.Complete.{if_true, if_false, if_both, eight_aligned, di
 use Rattle.rz_isa.proofs.Read.{little_bytes, little_length}
 use Rattle.rz_isa.proofs.Sound.{imm_again}
 use Rattle.rz_isa.proofs.Parts.{prefixes_ok, times_f3, rep_again, w_is, width_read, bits, reg_field_suits, place_suits, RmGiven, rm_read}
+use Rattle.rz_isa.proofs.Tests.{and_parts, and_both, below_test, within_test}
 
 -- The canonical parts of fields are spelled by their row and read as the fields.
-
-and_both : (a b : Bool) → a ≡ true → b ≡ true → (a && b) ≡ true
-and_both a b ea eb = grind arith
-
-reach_parts : (a b : Bool) → (a && b) ≡ true → (a ≡ true) × (b ≡ true)
-reach_parts a b h = (grind arith, grind arith)
 
 -- ---- the opcode
 
@@ -156,7 +151,7 @@ pub parts_read : (row : Row) (f : Fields) (next : ℕ) → is_regular row ≡ tr
 parts_read row f next regular can ln near =
     let reg = regular_of row regular in
     let h = had_of row f can in
-    let r = reach_parts (place_reaches next f.rm) (imm_reaches row.imm next f.imm) near in
+    let r = and_parts (place_reaches next f.rm) (imm_reaches row.imm next f.imm) near in
     let b = bits row f h in
     let m = rm_read row.rm row.digit row.span row.opcode (rm_width row.op f.w) f.w (rex_for row f) next f.rm f.reg (opcode_of row f) f.cond (rm_given row f next reg h ln r.0) in
     let o = opcode_read row f reg h in
@@ -184,7 +179,7 @@ parts_read row f next regular can ln near =
 
 bytes_append : (xs ys : List ℕ) → are_bytes xs ≡ true → are_bytes ys ≡ true → are_bytes (xs ++ ys) ≡ true
 bytes_append [] ys hx hy = hy
-bytes_append (x ∷ xs) ys hx hy = (let t = reach_parts (nat_lt x 256) (are_bytes xs) hx in and_both _ _ t.0 (bytes_append xs ys t.1 hy))
+bytes_append (x ∷ xs) ys hx hy = (let t = and_parts (nat_lt x 256) (are_bytes xs) hx in and_both _ _ t.0 (bytes_append xs ys t.1 hy))
 
 prefix_bytes : (a b : Bool) → are_bytes (prefixes_for a b) ≡ true
 prefix_bytes true true = refl
@@ -262,12 +257,6 @@ tail_short (Some rule) digit k w bs alone fit = omega (arith, rm_short rule digi
 pub length_of : (row : Row) (p : Parts) → length (bytes_of row p) ≡ length p.prefixes + (length (rex_bytes p.rex) + (length (escape row.map) + (1 + (length p.rm + length p.imm))))
 length_of row p = grind (arith, length-append, common_steps)
 
-short_test : (n : ℕ) → n ≤ 15 → nat_le n 15 ≡ true
-short_test n h = grind (arith, nat_tests)
-
-byte_test : (n : ℕ) → n < 256 → nat_lt n 256 ≡ true
-byte_test n h = grind (arith, nat_tests)
-
 pub spelled_for : (row : Row) (f : Fields) (next : ℕ) → is_regular row ≡ true → can_have row f ≡ true → next < 2 ^ 64 → reaches row f next ≡ true
     → SpelledBy row (parts_for row f next) (bytes_of row (parts_for row f next))
 spelled_for row f next regular can ln near =
@@ -290,8 +279,8 @@ spelled_for row f next regular can ln near =
       all = bytes_append p.prefixes _ (prefix_bytes (is_half f.w) (stands_f3 row.f3 f.rep))
           (bytes_append (rex_bytes p.rex) _ (rex_are p.rex b.fits)
           (bytes_append (escape row.map) _ (escape_are row.map)
-          (and_both _ _ (byte_test p.opcode o.byte) (bytes_append p.rm p.imm r.rm (little_bytes (imm_len row.imm f.w) (imm_value row.imm next f.imm))))));
-      short = short_test (length (bytes_of row p)) short;
+          (and_both _ _ (below_test p.opcode 256 o.byte) (bytes_append p.rm p.imm r.rm (little_bytes (imm_len row.imm f.w) (imm_value row.imm next f.imm))))));
+      short = within_test (length (bytes_of row p)) 15 short;
     }
   where
     sums : (a b c d e k n : ℕ) → n ≡ a + (b + (c + (1 + (d + e)))) → a ≤ 2 → b ≤ 1 → c ≤ 1 → e ≡ k → d + k ≤ 10 → n ≤ 15
@@ -353,7 +342,7 @@ find_home (Some rules.MemoryOnly) v w (places.At a) k n alone hp hi = at_home k 
 
 append_parts : (xs ys : List ℕ) → are_bytes (xs ++ ys) ≡ true → (are_bytes xs ≡ true) × (are_bytes ys ≡ true)
 append_parts [] ys h = (refl, h)
-append_parts (x ∷ xs) ys h = (let t = reach_parts (nat_lt x 256) (are_bytes (xs ++ ys)) h in let r = append_parts xs ys t.1 in (and_both _ _ t.0 r.0, r.1))
+append_parts (x ∷ xs) ys h = (let t = and_parts (nat_lt x 256) (are_bytes (xs ++ ys)) h in let r = append_parts xs ys t.1 in (and_both _ _ t.0 r.0, r.1))
 
 pub spelled_bytes : (row : Row) (p : Parts) (s : List ℕ) → SpelledBy row p s → (are_bytes p.rm ≡ true) × (are_bytes p.imm ≡ true)
 spelled_bytes row p s h =
@@ -361,7 +350,7 @@ spelled_bytes row p s h =
     let a = append_parts p.prefixes _ all in
     let b = append_parts (rex_bytes p.rex) _ a.1 in
     let c = append_parts (escape row.map) _ b.1 in
-    append_parts p.rm p.imm (reach_parts (nat_lt p.opcode 256) (are_bytes (p.rm ++ p.imm)) c.1).1
+    append_parts p.rm p.imm (and_parts (nat_lt p.opcode 256) (are_bytes (p.rm ++ p.imm)) c.1).1
 
 -- ---- the test is exact
 

@@ -10,3 +10,4 @@ pub mod Finding
 pub mod Canonical
 pub mod Regular
 pub mod Emitted
+pub mod Takes

@@ -1,4 +1,4 @@
-use Rattle.std.specs.Prelude.{ℕ, ◌≡◌, ◌≢◌, ◌+◌, ◌%◌, ◌^◌, ◌<◌, List, [], ◌++◌, length, Some, slice_get}
+use Rattle.std.specs.Prelude.{ℕ, ◌≡◌, ◌+◌, ◌%◌, ◌^◌, ◌<◌, List, ◌∷◌, ◌++◌, length, Some, slice_get}
 use Rattle.rz_isa.specs.declared.rows.Row.{Row}
 use Rattle.rz_isa.specs.declared.instruction.Insn.{Insn}
 use Rattle.rz_isa.specs.declared.spelled.Fields.{Fields}
@@ -22,15 +22,24 @@ pub record Spells (rows : List Row) (s : List ℕ) (at : ℕ) (x : Insn) : Type 
   pub in_table : slice_get rows n ≡ Some row
   pub by_row : RowSpells row s at x
 
--- the bytes begin a spelling and end inside it
+-- the bytes begin a spelling and end inside it: it has one byte more at least
 pub record Begins (rows : List Row) (s : List ℕ) : Type 0 where
   pub n : ℕ
   pub row : Row
   pub in_table : slice_get rows n ≡ Some row
   pub parts : Parts
+  pub next : ℕ
   pub more : List ℕ
-  pub goes_on : more ≢ []
-  pub spelled : SpelledBy row parts (s ++ more)
+  pub spelled : SpelledBy row parts (s ++ (next ∷ more))
+
+-- no front of the bytes is a spelling, and they begin none
+pub record IsUnknown (rows : List Row) (bytes : List ℕ) : Type 0 where
+  pub no_front : (s more : List ℕ) (at : ℕ) (x : Insn) → s ++ more ≡ bytes → ¬ Spells rows s at x
+  pub begins_none : ¬ Begins rows bytes
+
+-- they are unknown whatever follows
+abbrev pub UnknownFront : List Row → List ℕ → Type 0
+UnknownFront rows bytes = (rest : List ℕ) → IsUnknown rows (bytes ++ rest)
 
 -- ---- the fields that a row can have
 

@@ -1,4 +1,4 @@
-ghost use Rattle.std.specs.Prelude.{◌≡◌, ◌<◌, ◌^◌};
+ghost use Rattle.std.specs.Prelude.{◌≡◌};
 ghost use Rattle.rz_isa.specs.Fields.{build_op, place_at as place_of_letter, operand_at as operand_of_letter, reg_at as reg_of_letter, number_of as number_of_reg, number_at as number_of_letter, count_at as count_of_letter, index_at as index_of_letter, letter_width as width_of_letter};
 
 use crate::instruction::{BitIndex, Count, Insn, Operand, Place, Reg};

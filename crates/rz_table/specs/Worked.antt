@@ -1,21 +1,22 @@
-use Rattle.std.specs.Prelude.{ℕ, ◌≡◌, ◌+◌, ◌&&◌, Bool, true, false, nat_le, List, [], ◌∷◌, Option, Some, None, is_some, pos, refl, if◌then◌else◌}
-use Rattle.std.specs.List.{list_all, list_any}
-use Rattle.rz_num.specs.declared.width.Width.TheVariants.{W32, W64}
+use Rattle.std.specs.Prelude.{◌≡◌, ◌&&◌, Bool, true, [], ◌∷◌, Some, None, is_some, pos, refl, if◌then◌else◌}
+use Rattle.std.specs.List.{list_all}
+use Rattle.rz_num.specs.declared.width.Width.TheVariants.{W16, W32, W64}
+use Rattle.rz_flags.specs.declared.ArithOp.TheVariants as ariths
+use Rattle.rz_flags.specs.declared.ShiftOp.TheVariants as shifts
+use Rattle.rz_flags.specs.declared.ScanOp.TheVariants as scans
+use Rattle.rz_flags.specs.declared.Cond.TheVariants as conds
 use Rattle.rz_isa.specs.declared.rows.Row.{Row}
-use Rattle.rz_isa.specs.declared.rows.OpMap.{OpMap}
-use Rattle.rz_isa.specs.declared.rows.OpMap.TheVariants as maps
 use Rattle.rz_isa.specs.declared.rows.Form.TheVariants as forms
 use Rattle.rz_isa.specs.declared.instruction.Insn.TheVariants as insns
 use Rattle.rz_isa.specs.declared.instruction.Reg.TheVariants as regs
 use Rattle.rz_isa.specs.declared.instruction.Place.TheVariants as places
 use Rattle.rz_isa.specs.declared.instruction.Operand.TheVariants as operands
+use Rattle.rz_isa.specs.declared.instruction.Count.TheVariants as counts
 use Rattle.rz_isa.specs.declared.spelled.Fields.{Fields}
-use Rattle.rz_isa.specs.Spelling.{prefixes_fit, is_met, w_demand, b_demand, opcode_fits, bit_w, bit_b}
 use Rattle.rz_isa.specs.Fields.{build_op}
 use Rattle.rz_isa.specs.Having.{can_have}
 use Rattle.rz_isa.specs.Finding.{least, found}
 use Rattle.rz_isa.specs.Regular.{is_exchange}
-use Rattle.rz_isa.specs.Table.{same_map}
 use Rattle.rz_isa.specs.Canonical.{canonical}
 use Rattle.rz_isa.specs.Spells.{Spells}
 use Rattle.rz_table.specs.declared.profile_rows.TheConstants.{PROFILE}
@@ -115,69 +116,57 @@ endbr64 = record {
   };
 }
 
--- 66 thirteen times makes 16 bytes, one more than there may be
-too_long : nat_le (13 + 3) 15 ≡ false
-too_long = refl
+-- 63 with REX.W
+double_extension : Spells PROFILE (0x48 ∷ 0x63 ∷ 0xc0 ∷ []) 0x1000 (insns.Extend true W64 W32 0 (places.Reg (regs.R 0)))
+double_extension = record {
+  n = 92;
+  row = _;
+  in_table = refl;
+  by_row = record {
+    parts = record { prefixes = []; rex = Some 0x48; opcode = 0x63; rm = (0xc0 ∷ []); imm = [] };
+    spelled = record { bytes = refl; fits = record { prefixes = refl; rex = refl; w = refl; opcode = refl; b = refl; rm = refl; imm = refl }; all = refl; short = refl };
+    names = refl;
+  };
+}
 
--- ---- heads that no row takes
+-- 66 has no effect beside REX.W
+wide_move_with_66 : Spells PROFILE (0x66 ∷ 0x48 ∷ 0x89 ∷ 0xe5 ∷ []) 0x1000 (insns.Mov W64 (places.Reg (regs.R 5)) (operands.Place (places.Reg (regs.R 4))))
+wide_move_with_66 = record {
+  n = 79;
+  row = _;
+  in_table = refl;
+  by_row = record {
+    parts = record { prefixes = (0x66 ∷ []); rex = Some 0x48; opcode = 0x89; rm = (0xe5 ∷ []); imm = [] };
+    spelled = record { bytes = refl; fits = record { prefixes = refl; rex = refl; w = refl; opcode = refl; b = refl; rm = refl; imm = refl }; all = refl; short = refl };
+    names = refl;
+  };
+}
 
-abbrev pub takes : List ℕ → Option ℕ → OpMap → ℕ → Row → Bool
-takes ps rex map o r = same_map r.map map && opcode_fits r o && prefixes_fit r ps && is_met (w_demand r.size) (bit_w rex) && is_met (b_demand r.op r.map o) (bit_b rex)
+-- Set takes any reg field
+set_with_reg_field_7 : Spells PROFILE (0x0f ∷ 0x94 ∷ 0xf8 ∷ []) 0x1000 (insns.Set conds.E (places.Reg (regs.R 0)))
+set_with_reg_field_7 = record {
+  n = 156;
+  row = _;
+  in_table = refl;
+  by_row = record {
+    parts = record { prefixes = []; rex = None; opcode = 0x94; rm = (0xf8 ∷ []); imm = [] };
+    spelled = record { bytes = refl; fits = record { prefixes = refl; rex = refl; w = refl; opcode = refl; b = refl; rm = refl; imm = refl }; all = refl; short = refl };
+    names = refl;
+  };
+}
 
-abbrev pub is_taken : List ℕ → Option ℕ → OpMap → ℕ → Bool
-is_taken ps rex map o = list_any (takes ps rex map o) PROFILE
-
--- 66 where the size class has none
-no_push : is_taken (0x66 ∷ []) None maps.One 0x50 ≡ false
-no_push = refl
-
-no_extension : is_taken (0x66 ∷ []) None maps.Two 0xb7 ≡ false
-no_extension = refl
-
-no_return : is_taken (0x66 ∷ []) None maps.One 0xc3 ≡ false
-no_return = refl
-
-no_byte_move : is_taken (0x66 ∷ []) None maps.One 0x88 ≡ false
-no_byte_move = refl
-
-no_swap : is_taken (0x66 ∷ []) None maps.Two 0xc8 ≡ false
-no_swap = refl
-
-no_double_shift : is_taken (0x66 ∷ []) None maps.Two 0xa4 ≡ false
-no_double_shift = refl
-
-no_wide_move : is_taken (0x66 ∷ []) (Some 0x48) maps.One 0xb8 ≡ false
-no_wide_move = refl
-
-no_pause : is_taken (0x66 ∷ (0xf3 ∷ [])) None maps.One 0x90 ≡ false
-no_pause = refl
-
--- 63 without REX.W, and with it
-no_narrow_extension : is_taken [] None maps.One 0x63 ≡ false
-no_narrow_extension = refl
-
-wide_extension : is_taken [] (Some 0x48) maps.One 0x63 ≡ true
-wide_extension = refl
-
--- an exchange takes no F3, and 0F 1E wants one
-no_exchange : is_taken (0xf3 ∷ []) (Some 0x41) maps.One 0x90 ≡ false
-no_exchange = refl
-
-no_endbr64 : is_taken [] None maps.Two 0x1e ≡ false
-no_endbr64 = refl
-
--- 67 elsewhere, a prefix twice, F0
-no_67 : is_taken (0x67 ∷ []) None maps.One 0x90 ≡ false
-no_67 = refl
-
-no_second_2e : is_taken (0x2e ∷ (0x2e ∷ [])) None maps.One 0x90 ≡ false
-no_second_2e = refl
-
-one_2e : is_taken (0x2e ∷ []) None maps.One 0x90 ≡ true
-one_2e = refl
-
-no_lock : is_taken (0xf0 ∷ []) None maps.One 0x90 ≡ false
-no_lock = refl
+-- 2E once
+nop_with_2e : Spells PROFILE (0x2e ∷ 0x90 ∷ []) 0x1000 (insns.Nop)
+nop_with_2e = record {
+  n = 172;
+  row = _;
+  in_table = refl;
+  by_row = record {
+    parts = record { prefixes = (0x2e ∷ []); rex = None; opcode = 0x90; rm = []; imm = [] };
+    spelled = record { bytes = refl; fits = record { prefixes = refl; rex = refl; w = refl; opcode = refl; b = refl; rm = refl; imm = refl }; all = refl; short = refl };
+    names = refl;
+  };
+}
 
 -- ---- canonical spellings
 
@@ -186,6 +175,29 @@ one_to_rax = refl
 
 address_of_stack : canonical PROFILE (insns.Lea W64 4 (places.Mem (record { base = Some 4; index = None; scale = 1; disp = pos 16 }))) 0x1000 forms.Near ≡ Some (0x48 ∷ 0x8d ∷ 0x64 ∷ 0x24 ∷ 0x10 ∷ [])
 address_of_stack = refl
+
+-- MOV of an immediate: the register's own opcode at 32 bits, C7 at 64 where four bytes do, else eight
+one_to_eax : canonical PROFILE (insns.Mov W32 (places.Reg (regs.R 0)) (operands.Imm 1)) 0x1000 forms.Near ≡ Some (0xb8 ∷ 0x01 ∷ 0x00 ∷ 0x00 ∷ 0x00 ∷ [])
+one_to_eax = refl
+
+eight_bytes_to_rax : canonical PROFILE (insns.Mov W64 (places.Reg (regs.R 0)) (operands.Imm 0x80000000)) 0x1000 forms.Near ≡ Some (0x48 ∷ 0xb8 ∷ 0x00 ∷ 0x00 ∷ 0x00 ∷ 0x80 ∷ 0x00 ∷ 0x00 ∷ 0x00 ∷ 0x00 ∷ [])
+eight_bytes_to_rax = refl
+
+-- 81 and not the accumulator's opcode
+sum_in_eax : canonical PROFILE (insns.Arith ariths.Add W32 (places.Reg (regs.R 0)) (operands.Imm 0x12345678)) 0x1000 forms.Near ≡ Some (0x81 ∷ 0xc0 ∷ 0x78 ∷ 0x56 ∷ 0x34 ∷ 0x12 ∷ [])
+sum_in_eax = refl
+
+-- 87 and not the register's opcode
+exchange_with_eax : canonical PROFILE (insns.Xchg W32 (places.Reg (regs.R 1)) (regs.R 0)) 0x1000 forms.Near ≡ Some (0x87 ∷ 0xc1 ∷ [])
+exchange_with_eax = refl
+
+-- D1 and not C1
+shift_by_one : canonical PROFILE (insns.Shift shifts.Shl W32 (places.Reg (regs.R 0)) (counts.Imm 1)) 0x1000 forms.Near ≡ Some (0xd1 ∷ 0xe0 ∷ [])
+shift_by_one = refl
+
+-- 66 stands before F3
+ones_of_cx : canonical PROFILE (insns.Scan scans.Popcnt W16 0 (places.Reg (regs.R 1))) 0x1000 forms.Near ≡ Some (0x66 ∷ 0xf3 ∷ 0x0f ∷ 0xb8 ∷ 0xc1 ∷ [])
+ones_of_cx = refl
 
 -- ---- each row once: plain fields can be had, and are found again from what they build
 

@@ -54,9 +54,11 @@ mod early;
 mod early_rows;
 mod profile;
 mod profile_rows;
+mod unknown;
 
 pub use early::Early;
 pub use profile::Profile1;
+pub use unknown::unknown_bytes;
 
 #[cfg(test)]
 mod tests;

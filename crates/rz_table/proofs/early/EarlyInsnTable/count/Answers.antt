@@ -1,7 +1,7 @@
 use Rattle.std.proofs.Common.{refl}
 use Rattle.rz_isa.proofs.OneRow.{one_row}
 use Rattle.rz_isa.proofs.Choice.{one_canonical_row, canonical_spells}
-use Rattle.rz_isa.proofs.Served.{emits_mov, emits_jcc, emits_jcc_short, emits_jrcxz, emits_jmp, emits_jmp_short, emits_syscall, emits_ud2, emits_hlt, emits_int3}
+use Rattle.rz_isa.proofs.Served.{emits}
 use Rattle.rz_table.specs.declared.early_rows.TheConstants.{EARLY}
 use Rattle.rz_table.proofs.early.EarlyInsnTable.count.Goals as goal
 
@@ -15,15 +15,6 @@ pub returns-clause-canonical_spells : goal.returns-clause-canonical_spells
 returns-clause-canonical_spells c = canonical_spells EARLY refl
 
 pub returns-clause-emits : goal.returns-clause-emits
-returns-clause-emits c = record {
-  mov = λ r n at. emits_mov EARLY 7 r n at (record { in_table = refl; first = refl });
-  jcc = λ d t at. emits_jcc EARLY 25 d t at (record { in_table = refl; first = refl });
-  jcc_short = λ d t at. emits_jcc_short EARLY 24 d t at (record { in_table = refl; first = refl });
-  jrcxz = λ t at. emits_jrcxz EARLY 26 t at (record { in_table = refl; first = refl });
-  jmp = λ t at. emits_jmp EARLY 28 t at (record { in_table = refl; first = refl });
-  jmp_short = λ t at. emits_jmp_short EARLY 27 t at (record { in_table = refl; first = refl });
-  syscall = λ at. emits_syscall EARLY 29 at (record { in_table = refl; first = refl });
-  ud2 = λ at. emits_ud2 EARLY 30 at (record { in_table = refl; first = refl });
-  hlt = λ at. emits_hlt EARLY 31 at (record { in_table = refl; first = refl });
-  int3 = λ at. emits_int3 EARLY 32 at (record { in_table = refl; first = refl });
-}
+returns-clause-emits c = emits EARLY
+    (record { mov = 7; jcc = 25; jcc_short = 24; jrcxz = 26; jmp = 28; jmp_short = 27; syscall = 29; ud2 = 30; hlt = 31; int3 = 32 })
+    (record { mov = λ r n. refl; jcc = λ d t. refl; jcc_short = λ d t. refl; jrcxz = λ t. refl; jmp = λ t. refl; jmp_short = λ t. refl; syscall = refl; ud2 = refl; hlt = refl; int3 = refl })
