@@ -8,7 +8,7 @@ use Rattle.rz_core.specs.Words.{Debloat}
 use Rattle.rz_core.specs.Texts.{refusal_text}
 use Rattle.std.specs.Prelude.{Some, None}
 use Rattle.rz_outside.specs.Counts.{Rose, rose_later}
-use Rattle.rz_core.specs.Causes.{StoreCalls, SinkCalls, HoldsThin, InputRefusal, PrepareRefusal, RefusedBy, CauseOf, FilesAfterForm, SinkAfter, GotText, PutAfter, RefusedAfter, IsReported}
+use Rattle.rz_core.specs.Causes.{StoreCalls, SinkCalls, HoldsThin, InputRefusal, PrepareRefusal, RefusedBy, CauseOf, FilesAfterForm, SinkAfter, SinkAfterForm, GotText, PutAfter, RefusedAfter, IsReported}
 
 -- a refusal's cause is the answer's
 same_cause : (d : Debloat) (s : StoreCalls) (k : SinkCalls) (st : Status) → RefusedBy d s st → CauseOf d s k st
@@ -44,7 +44,7 @@ refused_files d s k st answer h f after =
     let P : Status → Type 0 = λ a. FilesAfterForm d s a in
     ⊎_elim (λ m. subst P (sym m.0) (files_without_memory d s st h f)) (λ r. subst P (sym r.0) f) after
 
-got_refusal : (d : Debloat) (s : StoreCalls) (k : SinkCalls) (st : Status) → RefusedBy d s st → GotText k (refusal_text st) → ((st ≡ status.OutOfMemory) → k.new ≡ k.old) → SinkAfter (Some d) s k st
+got_refusal : (d : Debloat) (s : StoreCalls) (k : SinkCalls) (st : Status) → RefusedBy d s st → GotText k (refusal_text st) → ((st ≡ status.OutOfMemory) → k.new ≡ k.old) → SinkAfterForm d s k st
 got_refusal d s k (status.Refused file why) h g m = g
 got_refusal d s k (status.BadInput input line) h g m = g
 got_refusal d s k (status.LeftCode input address) h g m = g
@@ -55,9 +55,9 @@ got_refusal d s k status.OutOfMemory h g m = m refl
 got_refusal d s k status.Ok h g m = absurd h
 got_refusal d s k status.Usage h g m = absurd h
 
-pub refused_sink : (d : Debloat) (s : StoreCalls) (k : SinkCalls) (st answer : Status) → RefusedBy d s st → RefusedAfter st k answer → SinkAfter (Some d) s k answer
+pub refused_sink : (d : Debloat) (s : StoreCalls) (k : SinkCalls) (st answer : Status) → RefusedBy d s st → RefusedAfter st k answer → SinkAfterForm d s k answer
 refused_sink d s k st answer h after =
-    let P : Status → Type 0 = λ a. SinkAfter (Some d) s k a in
+    let P : Status → Type 0 = λ a. SinkAfterForm d s k a in
     ⊎_elim (λ m. subst P (sym m.0) m.1) (λ r. subst P (sym r.0) (got_refusal d s k st h r.1 r.2)) after
 
 -- after the report was put, or not
@@ -83,7 +83,7 @@ put_files d s k report (status.LeftCode input address) others done after = absur
 put_files d s k report (status.ReadFault file) others done after = absurd after
 put_files d s k report status.Usage others done after = absurd after
 
-pub put_sink : (d : Debloat) (s : StoreCalls) (k : SinkCalls) (report : List ℕ) (answer : Status) → (IsTrue s.told → IsReported d s report) → PutAfter report k answer → SinkAfter (Some d) s k answer
+pub put_sink : (d : Debloat) (s : StoreCalls) (k : SinkCalls) (report : List ℕ) (answer : Status) → (IsTrue s.told → IsReported d s report) → PutAfter report k answer → SinkAfterForm d s k answer
 put_sink d s k report status.Ok done after = λ told. (let r = done told in (r.done.x, r.done.new.0, subst (λ t. k.new ≡ Rattle.rz_outside.specs.SinkAnswers.appended k.old t) r.report_is after))
 put_sink d s k report (status.WriteFault target.Text) done after = λ told. (let r = done told in (r.done.x, r.done.new.0, (after.1.0, subst (λ t. k.new ≡ Rattle.rz_outside.specs.SinkAnswers.appended k.old (Rattle.std.specs.Prelude.take after.1.0 t)) r.report_is after.1.1)))
 put_sink d s k report status.OutOfMemory done after = after

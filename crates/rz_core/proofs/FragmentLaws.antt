@@ -5,7 +5,7 @@ use Rattle.std.proofs.lemmas.List.Elements.{All-from_recursion, recursion_from_A
 use Rattle.rz_machine.specs.declared.decode.Decoded.{Decoded}
 use Rattle.rz_machine.specs.declared.decode.Decoded.TheVariants as decoded
 use Rattle.rz_machine.specs.declared.items.Item.{Item}
-use Rattle.rz_machine.specs.Memory.{Regions, wrap}
+use Rattle.rz_image.specs.Memory.{Regions, wrap}
 use Rattle.rz_machine.specs.Insn.{Decoder, Way, Onward, Jumps, Branches, Calls, Halts, way_of, target_in}
 use Rattle.rz_machine.specs.First.{decode_first, HasSpelling}
 use Rattle.rz_machine.specs.TableLaws.{AreBytes, NamesInsn}

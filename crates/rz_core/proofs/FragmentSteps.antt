@@ -3,7 +3,7 @@ use Rattle.std.proofs.Common.{◌≡◌, ℕ, ◌+◌, ◌<◌, ◌≤◌, List,
 use Rattle.std.proofs.lemmas.List.{drop_all}
 use Rattle.rz_machine.specs.declared.decode.Decoded.{Decoded}
 use Rattle.rz_machine.specs.declared.items.Fragment.{Fragment}
-use Rattle.rz_machine.specs.Memory.{Regions}
+use Rattle.rz_image.specs.Memory.{Regions}
 use Rattle.rz_machine.specs.Insn.{Decoder}
 use Rattle.rz_machine.specs.Keeps.{Edges}
 use Rattle.rz_machine.specs.Nodes.{spelled_at}

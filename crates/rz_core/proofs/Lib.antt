@@ -9,5 +9,6 @@ pub mod Trimmed
 pub mod FormLaws
 pub mod ReadLaws
 pub mod CauseLaws
+pub mod CheckLaws
 pub mod ExactLaws
 pub mod MadeLaws

@@ -2,15 +2,16 @@
 use Rattle.std.proofs.Common.{◌≡◌, ℕ, suc, ◌<◌, List, [], ◌∷◌, length, sym, ap, ap₂, ◌∙◌, subst, None}
 use Rattle.std.specs.Prelude.{slice_index}
 use Rattle.std.specs.List.{AllByRecursion}
-use Rattle.rz_machine.specs.declared.elf.Elf.{Elf}
+use Rattle.rz_elf.specs.declared.elf.Elf.{Elf}
 use Rattle.rz_machine.specs.declared.machine.Machine.{Machine}
 use Rattle.rz_machine.specs.declared.sys.Input.{Input}
 use Rattle.rz_machine.specs.declared.trace.Record.{Record}
-use Rattle.rz_machine.specs.Memory.{Regions, NoSelfWritten}
-use Rattle.rz_machine.specs.Elf.{fault_of, image_of, Image}
+use Rattle.rz_image.specs.Memory.{Regions, NoSelfWritten}
+use Rattle.rz_elf.specs.Elf.{fault_of, image_of, Image}
 use Rattle.rz_machine.specs.Insn.{Decoder}
 use Rattle.rz_machine.specs.First.{decode_first}
-use Rattle.rz_machine.specs.Loaded.{IsLoadable, loaded, thin_elf}
+use Rattle.rz_elf.specs.Loaded.{loaded}
+use Rattle.rz_machine.specs.ThinElf.{thin_elf}
 use Rattle.rz_machine.specs.Thin.{IsThin}
 use Rattle.rz_machine.specs.Start.{start, empty_input}
 use Rattle.rz_machine.specs.Begun.{recorded}
@@ -20,10 +21,10 @@ use Rattle.rz_machine.specs.Traced.{with_run}
 use Rattle.rz_machine.specs.WrittenFile.{Inert}
 use Rattle.rz_machine.specs.Keeps.{Keeps}
 use Rattle.rz_machine.specs.Added.{added}
-use Rattle.rz_machine.specs.PlainImage.{IsPlainRegion, IsPlainImage}
+use Rattle.rz_elf.specs.PlainImage.{IsPlainRegion, IsPlainImage}
 use Rattle.rz_machine.proofs.AddedLaws.{sites-first, site_edges-first}
-use Rattle.rz_machine.proofs.Cells.{IsFixed, all_map, none_self_written}
-use Rattle.rz_machine.proofs.PlainAccepted.{accepted_plain}
+use Rattle.rz_image.proofs.Cells.{IsFixed, all_map, none_self_written}
+use Rattle.rz_elf.proofs.PlainAccepted.{accepted_plain}
 use Rattle.rz_core.specs.Texts.{report_text}
 use Rattle.rz_core.specs.Debloated.{traced, kept_of, IsDebloated, report_of}
 use Rattle.rz_core.specs.Making.{IsOfThin}
@@ -34,13 +35,12 @@ each_byte [] h = tt
 each_byte (x ∷ xs) h = (h 0, each_byte xs (λ i. h (suc i)))
 
 -- what is read of a thin file
-pub of_thin : (x : List ℕ) (elf : Elf) → elf ≡ thin_elf x → IsThin x → fault_of x ≡ None → IsLoadable elf → loaded elf ≡ image_of x → ((i : ℕ) → slice_index x i < 256) → IsOfThin elf
-of_thin x elf e thin accepted loadable image bytes =
+pub of_thin : (x : List ℕ) (elf : Elf) → elf ≡ thin_elf x → IsThin x → fault_of x ≡ None → loaded elf ≡ image_of x → ((i : ℕ) → slice_index x i < 256) → IsOfThin elf
+of_thin x elf e thin accepted image bytes =
     let b : elf.bytes ≡ x = ap (λ (f : Elf). f.bytes) e in
     record {
       thin = subst IsThin (sym b) thin;
       accepted = ap fault_of b ∙ accepted;
-      loadable = loadable;
       read = e ∙ ap thin_elf (sym b);
       image = image ∙ ap image_of (sym b);
       bytes_fit = subst (AllByRecursion (λ c. c < 256)) (sym b) (each_byte x bytes);

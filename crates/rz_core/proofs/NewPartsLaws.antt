@@ -7,21 +7,21 @@ use Rattle.rz_machine.specs.declared.items.Label.{Label}
 use Rattle.rz_machine.specs.declared.items.Label.TheVariants as label
 use Rattle.rz_machine.specs.declared.items.Fragment.{Fragment}
 use Rattle.rz_machine.specs.declared.trace.Record.{Record}
-use Rattle.rz_machine.specs.Memory.{zeros}
-use Rattle.rz_machine.specs.Elf.{Image}
+use Rattle.rz_image.specs.Memory.{zeros}
+use Rattle.rz_elf.specs.Elf.{Image}
 use Rattle.rz_machine.specs.First.{decode_first}
 use Rattle.rz_machine.specs.Fragments.{fragments_bytes, address_of, total_len}
 use Rattle.rz_machine.specs.Added.{Added, added, tables_size, code_size, stubs_size, page_floor, lowest, parts_below, all_stubs, filled}
 use Rattle.rz_machine.specs.declared.elf_write.Parts.{Parts}
 use Rattle.rz_machine.specs.Rewritable.{IsRewritable, IsAscending}
-use Rattle.rz_machine.specs.PlainImage.{IsPlainImage}
+use Rattle.rz_elf.specs.PlainImage.{IsPlainImage}
 use Rattle.rz_machine.specs.Rewritten.{HasRoom, IsRewritten, fragments_of, place_of, code_of_nodes}
 use Rattle.rz_machine.proofs.AddedLaws.{sites-first, site_edges-first}
 use Rattle.rz_machine.proofs.Emitted.{length-fragments_bytes}
 use Rattle.rz_machine.proofs.Parts.{length-filled}
 use Rattle.rz_machine.proofs.PlainNodes.{stands}
 use Rattle.rz_machine.proofs.RewrittenLaws.{code_room, stubs_room, stop_low, place_in_code}
-use Rattle.rz_machine.proofs.ThinLaws.{length-zeros}
+use Rattle.rz_image.proofs.Zeros.{length-zeros}
 use Rattle.rz_core.specs.declared.added.AddedRange.{AddedRange}
 use Rattle.rz_core.specs.NewParts.{range_of, new_parts_of}
 use Rattle.rz_core.specs.Places.{Placing, address_in, nodes_of, IsPlacingOf}

@@ -1,6 +1,11 @@
 -- What a bounded read says of the whole file.
-use Rattle.std.proofs.Common.{◌≡◌, ◌≢◌, ◌==◌, Bool, true, false, eqb-true, eq-eqb, ℕ, ◌+◌, ◌<◌, ◌≤◌, List, [], ◌∷◌, length, take, min, refl, sym, ap, ◌∙◌, subst, arith, take_all, length-take}
+use Rattle.std.proofs.Common.{◌≡◌, ◌≢◌, ◌==◌, ◌++◌, drop, if◌then◌else◌, inl, inr, ⊎_elim, Option, Some, None, lt-ltb, Bool, true, false, eqb-true, eq-eqb, ℕ, ◌+◌, ◌<◌, ◌≤◌, List, [], ◌∷◌, length, take, min, refl, sym, ap, ◌∙◌, subst, arith, take_all, length-take}
+use Rattle.std.proofs.lemmas.Bool.{cases_lt}
+use Rattle.rz_elf.specs.declared.fault.ElfFault.{ElfFault}
+use Rattle.rz_elf.specs.declared.fault.ElfFault.TheVariants as fault
+use Rattle.rz_elf.specs.Elf.{Condition, first_of, file_conditions, header_conditions, load_conditions, placed, loads, file_header, fault_of}
 use Rattle.rz_machine.specs.Thin.{IsThin}
+use Rattle.rz_machine.specs.ThinFault.{IsThinFault, IsUnbuilt}
 use Rattle.rz_machine.proofs.ThinLaws.{length-thin_file}
 
 -- a thin file is small
@@ -21,12 +26,48 @@ whole_read max whole bytes e small =
 pub thin_whole : (whole bytes : List ℕ) → bytes ≡ take 67108865 whole → IsThin bytes → bytes ≡ whole
 thin_whole whole bytes e thin = let small = thin_small bytes thin in whole_read 67108865 whole bytes e (omega arith)
 
--- where they aren't, the whole file isn't one
-pub not_thin_whole : (whole bytes : List ℕ) → bytes ≡ take 67108865 whole → (IsThin bytes → ⊥) → IsThin whole → ⊥
-not_thin_whole whole bytes e not thin =
-    let small = thin_small whole thin in
-    let fits : length whole ≤ 67108865 = omega arith in
-    not (subst IsThin (sym (e ∙ take_all 67108865 whole fits)) thin)
+-- a file of too many bytes
+long_fault : (x : List ℕ) → 67108864 < length x → fault_of x ≡ Some fault.Long
+unfolding fault_of
+long_fault x long =
+    let rest : List Condition = drop 1 (file_conditions x) ++ (header_conditions (length x) (placed x) ++ load_conditions (file_header x).entry (loads x)) in
+    ap (λ b. if b then Some fault.Long else first_of rest) (lt-ltb 67108864 (length x) long)
+
+-- the fault of the first bytes is that of the whole file
+pub fault_whole : (whole bytes : List ℕ) (o : Option ElfFault) → bytes ≡ take 67108865 whole → fault_of bytes ≡ o → fault_of whole ≡ o
+fault_whole whole bytes o e h = ⊎_elim short long (cases_lt 67108865 (length whole))
+  where
+    n : length bytes ≡ min 67108865 (length whole)
+    n = ap length e ∙ length-take 67108865 whole
+
+    short : 67108865 < length whole → fault_of whole ≡ o
+    short lt =
+        let k = n in
+        long_fault whole (omega arith) ∙ sym (long_fault bytes (omega (arith, k, lt))) ∙ h
+
+    long : length whole ≤ 67108865 → fault_of whole ≡ o
+    long le = ap fault_of (sym (e ∙ take_all 67108865 whole le)) ∙ h
+
+-- an accepted file was read whole
+pub accepted_whole : (whole bytes : List ℕ) → bytes ≡ take 67108865 whole → fault_of bytes ≡ None → bytes ≡ whole
+accepted_whole whole bytes e h = ⊎_elim short long (cases_lt 67108865 (length whole))
+  where
+    not_both : (o : Option ElfFault) (f : ElfFault) → o ≡ Some f → o ≡ None → ⊥
+    not_both o f a b = let g : Some f ≡ None = sym a ∙ b in cc
+
+    n : length bytes ≡ min 67108865 (length whole)
+    n = ap length e ∙ length-take 67108865 whole
+
+    short : 67108865 < length whole → bytes ≡ whole
+    short lt = let k = n in absurd (not_both (fault_of bytes) fault.Long (long_fault bytes (omega (arith, k, lt))) h)
+
+    long : length whole ≤ 67108865 → bytes ≡ whole
+    long le = e ∙ take_all 67108865 whole le
+
+-- where the first bytes have to be a thin file and aren't, the whole file is refused alike
+pub thin_fault_whole : (whole bytes : List ℕ) (f : ElfFault) → bytes ≡ take 67108865 whole → IsThinFault bytes f → IsThinFault whole f
+thin_fault_whole whole bytes f e why =
+    ⊎_elim (λ h. inl (fault_whole whole bytes (Some f) e h)) (λ u. inr (u.0, subst IsUnbuilt (accepted_whole whole bytes e u.1.accepted) u.1)) why
 
 -- a file is empty exactly where its first bytes are
 pub empty_whole : (max : ℕ) (whole bytes : List ℕ) → 0 < max → bytes ≡ take max whole → length bytes ≡ 0 → whole ≡ []

@@ -1,17 +1,18 @@
 -- When the tool gives which answer, and what the files and the sink hold after it.
-use Rattle.std.specs.Prelude.{◌≡◌, ◌≢◌, ◌⊎◌, ℕ, Bool, IsTrue, List, [], take, Option, Some, None}
+use Rattle.std.specs.Prelude.{◌≡◌, ◌≢◌, ◌⊎◌, ℕ, Bool, IsTrue, List, [], length, take, Option, Some, None}
 use Rattle.rz_outside.specs.Counts.{Rose}
 use Rattle.rz_outside.specs.StoreAnswers.{Files, SameFiles, SameOthers, IsMissing}
 use Rattle.rz_outside.specs.SinkAnswers.{appended}
-use Rattle.rz_machine.specs.declared.elf.ElfFault.TheVariants as fault
+use Rattle.rz_elf.specs.Elf.{fault_of, image_of}
 use Rattle.rz_machine.specs.First.{decode_first}
 use Rattle.rz_machine.specs.LeftCode.{LeavesCode}
 use Rattle.rz_machine.specs.Thin.{IsThin}
+use Rattle.rz_machine.specs.ThinFault.{IsThinFault}
 use Rattle.rz_core.specs.declared.status.Status.{Status}
 use Rattle.rz_core.specs.declared.status.Status.TheVariants as status
 use Rattle.rz_core.specs.declared.status.Target.TheVariants as target
-use Rattle.rz_core.specs.Words.{Debloat}
-use Rattle.rz_core.specs.Texts.{refusal_text}
+use Rattle.rz_core.specs.Words.{Debloat, Check, Form, Debloating, Checking}
+use Rattle.rz_core.specs.Texts.{refusal_text, check_text}
 use Rattle.rz_core.specs.Debloated.{traced, IsDebloated, report_of}
 
 -- a store before and after some calls: whether it tells its files, the files, its count of failures, and the name of the last failed call
@@ -54,7 +55,7 @@ ReadRefusal name s _ = ⊥
 abbrev pub ExecutableRefusal : List ℕ → StoreCalls → Status → Type 0
 ExecutableRefusal name s (status.ReadFault file) = (file ≡ name) × ReadCause s file
 ExecutableRefusal name s (status.Refused file why) =
-    (file ≡ name) × (why ≡ fault.Unbuilt) × (IsTrue s.told → (x : List ℕ) × (s.old name ≡ Some x) × (IsThin x → ⊥))
+    (file ≡ name) × (IsTrue s.told → (x : List ℕ) × (s.old name ≡ Some x) × IsThinFault x why)
 ExecutableRefusal name s status.OutOfMemory = Unit {0}
 ExecutableRefusal name s _ = ⊥
 
@@ -85,7 +86,7 @@ IsNew d s x w = AreRead d s.old x × IsDebloated d.limit x w
 -- when debloating is refused before the write, and how
 abbrev pub PrepareRefusal : Debloat → StoreCalls → Status → Type 0
 PrepareRefusal d s (status.Refused file why) =
-    (file ≡ d.exe) × (why ≡ fault.Unbuilt) × (IsTrue s.told → (x : List ℕ) × (s.old d.exe ≡ Some x) × (IsThin x → ⊥))
+    (file ≡ d.exe) × (IsTrue s.told → (x : List ℕ) × (s.old d.exe ≡ Some x) × IsThinFault x why)
 PrepareRefusal d s (status.BadInput input line) =
     (input ≡ 1) × (line ≡ 1)
     × (IsTrue s.told → ((x : List ℕ) × HoldsThin s.old d.exe x) × ((i : List ℕ) × (s.old d.input ≡ Some i) × (i ≢ [])))
@@ -133,9 +134,39 @@ CauseOf d s k (status.WriteFault target.File) = RefusedBy d s (status.WriteFault
 CauseOf d s k status.OutOfMemory = Unit {0}
 CauseOf d s k status.Usage = ⊥
 
+-- the file that is checked is accepted
+pub record IsAccepted (c : Check) (files : Files) (x : List ℕ) : Type 0 where
+  pub there : files c.exe ≡ Some x
+  pub accepted : fault_of x ≡ None
+
+-- what is said of an accepted file
+abbrev pub checked_text : List ℕ → List ℕ
+checked_text x = let i = image_of x in check_text (length i.loads) i.entry i.first_break
+
+-- and this is it
+pub record IsChecked (c : Check) (files : Files) (text : List ℕ) : Type 0 where
+  pub x : List ℕ
+  pub file : IsAccepted c files x
+  pub text_is : text ≡ checked_text x
+
+-- when checking is refused, and how
+abbrev pub CheckRefusal : Check → StoreCalls → Status → Type 0
+CheckRefusal c s (status.ReadFault file) = (file ≡ c.exe) × ReadCause s file
+CheckRefusal c s (status.Refused file why) =
+    (file ≡ c.exe) × (IsTrue s.told → (x : List ℕ) × (s.old c.exe ≡ Some x) × (fault_of x ≡ Some why))
+CheckRefusal c s status.OutOfMemory = Unit {0}
+CheckRefusal c s _ = ⊥
+
+-- when the tool gives which answer to `check`
+abbrev pub CheckCause : Check → StoreCalls → SinkCalls → Status → Type 0
+CheckCause c s k status.Ok = IsTrue s.told → (x : List ℕ) × IsAccepted c s.old x
+CheckCause c s k (status.WriteFault target.Text) = Rose k.before k.now
+CheckCause c s k answer = CheckRefusal c s answer
+
 -- when the tool gives which answer: words that are no form are refused as such, and no others
-abbrev pub HasCause : Option Debloat → StoreCalls → SinkCalls → Status → Type 0
-HasCause (Some d) s k answer = CauseOf d s k answer
+abbrev pub HasCause : Option Form → StoreCalls → SinkCalls → Status → Type 0
+HasCause (Some (Debloating d)) s k answer = CauseOf d s k answer
+HasCause (Some (Checking c)) s k answer = CheckCause c s k answer
 HasCause None s k status.Usage = Unit {0}
 HasCause None s k status.OutOfMemory = Unit {0}
 HasCause None s k _ = ⊥
@@ -152,22 +183,40 @@ FilesAfterForm d s status.OutOfMemory =
     × (IsTrue s.told → (s.new d.out ≡ s.old d.out) ⊎ (IsDone d s ⊎ (IsPart d s × Rose s.before s.now)))
 FilesAfterForm d s _ = SameFiles s.old s.new
 
--- what the files hold after an answer
-abbrev pub FilesAfter : Option Debloat → StoreCalls → Status → Type 0
+-- what the files hold after an answer: only debloating changes any
+abbrev pub FilesAfter : Option Form → StoreCalls → Status → Type 0
 FilesAfter None s answer = SameFiles s.old s.new
-FilesAfter (Some d) s answer = FilesAfterForm d s answer
+FilesAfter (Some (Debloating d)) s answer = FilesAfterForm d s answer
+FilesAfter (Some (Checking c)) s answer = SameFiles s.old s.new
 
 -- what the sink got: all of a text, or a prefix of it where its count rose
 abbrev pub GotText : SinkCalls → List ℕ → Type 0
 GotText k text = (k.new ≡ appended k.old text) ⊎ (Rose k.before k.now × ((n : ℕ) × (k.new ≡ appended k.old (take n text))))
 
--- what the sink got at an answer
-abbrev pub SinkAfter : Option Debloat → StoreCalls → SinkCalls → Status → Type 0
-SinkAfter (Some d) s k status.Ok = IsTrue s.told → (x : List ℕ) × AreRead d s.old x × (k.new ≡ appended k.old (report_of d.limit x))
-SinkAfter (Some d) s k (status.WriteFault target.Text) =
+-- what the sink got at a refusal
+abbrev pub GotRefusal : SinkCalls → Status → Type 0
+GotRefusal k status.OutOfMemory = k.new ≡ k.old
+GotRefusal k answer = GotText k (refusal_text answer)
+
+-- what the sink got at an answer to `debloat`
+abbrev pub SinkAfterForm : Debloat → StoreCalls → SinkCalls → Status → Type 0
+SinkAfterForm d s k status.Ok = IsTrue s.told → (x : List ℕ) × AreRead d s.old x × (k.new ≡ appended k.old (report_of d.limit x))
+SinkAfterForm d s k (status.WriteFault target.Text) =
     IsTrue s.told → (x : List ℕ) × AreRead d s.old x × ((n : ℕ) × (k.new ≡ appended k.old (take n (report_of d.limit x))))
-SinkAfter form s k status.OutOfMemory = k.new ≡ k.old
-SinkAfter form s k answer = GotText k (refusal_text answer)
+SinkAfterForm d s k answer = GotRefusal k answer
+
+-- what the sink got at an answer to `check`
+abbrev pub SinkAfterCheck : Check → StoreCalls → SinkCalls → Status → Type 0
+SinkAfterCheck c s k status.Ok = IsTrue s.told → (x : List ℕ) × IsAccepted c s.old x × (k.new ≡ appended k.old (checked_text x))
+SinkAfterCheck c s k (status.WriteFault target.Text) =
+    IsTrue s.told → (x : List ℕ) × IsAccepted c s.old x × ((n : ℕ) × (k.new ≡ appended k.old (take n (checked_text x))))
+SinkAfterCheck c s k answer = GotRefusal k answer
+
+-- what the sink got at an answer
+abbrev pub SinkAfter : Option Form → StoreCalls → SinkCalls → Status → Type 0
+SinkAfter (Some (Debloating d)) s k answer = SinkAfterForm d s k answer
+SinkAfter (Some (Checking c)) s k answer = SinkAfterCheck c s k answer
+SinkAfter None s k answer = GotRefusal k answer
 
 -- what a put of a command's text leaves, and the answer
 abbrev pub PutAfter : List ℕ → SinkCalls → Status → Type 0

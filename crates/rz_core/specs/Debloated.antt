@@ -2,7 +2,7 @@
 use Rattle.std.specs.Prelude.{ℕ, List, length}
 use Rattle.rz_machine.specs.declared.machine.Machine.{Machine}
 use Rattle.rz_machine.specs.declared.trace.Record.{Record}
-use Rattle.rz_machine.specs.Elf.{image_of}
+use Rattle.rz_elf.specs.Elf.{image_of}
 use Rattle.rz_machine.specs.First.{decode_first}
 use Rattle.rz_machine.specs.Start.{start, empty_input}
 use Rattle.rz_machine.specs.Begun.{recorded}

@@ -7,7 +7,7 @@ use Rattle.rz_machine.specs.Recorded.{IsUncut}
 use Rattle.rz_machine.specs.WrittenFile.{Inert}
 use Rattle.rz_core.specs.declared.status.Status.{Status}
 use Rattle.rz_core.specs.declared.status.Status.TheVariants as status
-use Rattle.rz_core.specs.Words.{Debloat}
+use Rattle.rz_core.specs.Words.{Debloat, Form, Debloating}
 use Rattle.rz_core.specs.Debloated.{kept_of, traced}
 use Rattle.rz_core.specs.Causes.{StoreCalls}
 
@@ -25,7 +25,7 @@ pub record HoldsHeadline (d : Debloat) (old new : Files) : Type 0 where
   -- the traced run itself takes no such edge before it ended or its limit came
   pub uncut : IsUncut decode_first (kept_of d.limit x).edges (traced x) d.limit
 
--- where a form was answered Ok and the store tells its files
-abbrev pub Headline : Option Debloat → StoreCalls → Status → Type 0
-Headline (Some d) s status.Ok = IsTrue s.told → HoldsHeadline d s.old s.new
+-- where `debloat` was answered Ok and the store tells its files
+abbrev pub Headline : Option Form → StoreCalls → Status → Type 0
+Headline (Some (Debloating d)) s status.Ok = IsTrue s.told → HoldsHeadline d s.old s.new
 Headline _ s _ = Unit {0}

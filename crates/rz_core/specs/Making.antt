@@ -2,11 +2,12 @@
 use Rattle.std.specs.Prelude.{◌≡◌, ◌<◌, ℕ, List, None}
 use Rattle.std.specs.List.{AllByRecursion}
 use Rattle.rz_outside.specs.StoreAnswers.{Files}
-use Rattle.rz_machine.specs.declared.elf.Elf.{Elf}
-use Rattle.rz_machine.specs.Elf.{fault_of, image_of}
+use Rattle.rz_elf.specs.declared.elf.Elf.{Elf}
+use Rattle.rz_elf.specs.Elf.{fault_of, image_of}
 use Rattle.rz_machine.specs.First.{decode_first}
 use Rattle.rz_machine.specs.LeftCode.{LeavesCode}
-use Rattle.rz_machine.specs.Loaded.{IsLoadable, loaded, thin_elf}
+use Rattle.rz_elf.specs.Loaded.{loaded}
+use Rattle.rz_machine.specs.ThinElf.{thin_elf}
 use Rattle.rz_machine.specs.Thin.{IsThin}
 use Rattle.rz_core.specs.declared.making.MakeRefusal.{MakeRefusal}
 use Rattle.rz_core.specs.declared.making.MakeRefusal.TheVariants as make
@@ -19,7 +20,6 @@ use Rattle.rz_core.specs.Causes.{AreRead}
 pub record IsOfThin (elf : Elf) : Type 0 where
   pub thin : IsThin elf.bytes
   pub accepted : fault_of elf.bytes ≡ None
-  pub loadable : IsLoadable elf
   pub read : elf ≡ thin_elf elf.bytes
   pub image : loaded elf ≡ image_of elf.bytes
   pub bytes_fit : AllByRecursion (λ b. b < 256) elf.bytes

@@ -1,8 +1,8 @@
 -- What stands in the parts of a new file.
 use Rattle.std.specs.Prelude.{◌-◌}
 use Rattle.rz_machine.specs.declared.trace.Record.{Record}
-use Rattle.rz_machine.specs.Memory.{zeros}
-use Rattle.rz_machine.specs.Elf.{Image}
+use Rattle.rz_image.specs.Memory.{zeros}
+use Rattle.rz_elf.specs.Elf.{Image}
 use Rattle.rz_machine.specs.Insn.{Decoder}
 use Rattle.rz_machine.specs.Added.{Added, added, filled}
 use Rattle.rz_machine.specs.declared.elf_write.Parts.{Parts}

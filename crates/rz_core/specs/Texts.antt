@@ -1,8 +1,8 @@
 -- The texts that the tool puts: reports and refusals, each ended by one line feed.
 use Rattle.std.specs.Prelude.{ℕ, false, List, [], ◌∷◌, ◌++◌, codes, decimal}
 use Rattle.std.specs.Fmt.{digits}
-use Rattle.rz_machine.specs.declared.elf.ElfFault.{ElfFault}
-use Rattle.rz_machine.specs.declared.elf.ElfFault.TheVariants as fault
+use Rattle.rz_elf.specs.declared.fault.ElfFault.{ElfFault}
+use Rattle.rz_elf.specs.declared.fault.ElfFault.TheVariants as fault
 use Rattle.rz_core.specs.declared.status.Status.{Status}
 use Rattle.rz_core.specs.declared.status.Status.TheVariants as status
 use Rattle.rz_core.specs.declared.status.Target.TheVariants as target
@@ -19,6 +19,11 @@ report_text added edges instructions site_edges sites =
     ++ (codes ",\"instructions\":" ++ (decimal instructions
     ++ (codes ",\"site_edges\":" ++ (decimal site_edges
     ++ (codes ",\"sites\":" ++ (decimal sites ++ codes "}\n")))))))))
+
+-- what is said of an accepted file: how many loads it has, its entry and its first break
+abbrev pub check_text : ℕ → ℕ → ℕ → List ℕ
+check_text loads entry first_break =
+    codes "ok loads " ++ (decimal loads ++ (codes " entry " ++ (hex_text entry ++ (codes " break " ++ (hex_text first_break ++ codes "\n")))))
 
 abbrev numbered : List ℕ → ℕ → List ℕ
 numbered name i = name ++ (32 ∷ decimal i)

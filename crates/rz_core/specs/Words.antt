@@ -31,10 +31,38 @@ abbrev pub is_debloat : List ℕ → List ℕ → List ℕ → List ℕ → List
 is_debloat command exe classes level limit out input =
     bytes_eq command (codes "debloat") && is_name exe && bytes_eq classes (codes "-") && bytes_eq level (codes "exact") && is_limit limit && is_name out && is_name input
 
--- the form that the words have, if any
-abbrev pub form_of : List (List ℕ) → Option Debloat
-form_of (command ∷ exe ∷ classes ∷ level ∷ limit ∷ out ∷ input ∷ []) =
+-- the words of `debloat`
+abbrev pub debloat_of : List (List ℕ) → Option Debloat
+debloat_of (command ∷ exe ∷ classes ∷ level ∷ limit ∷ out ∷ input ∷ []) =
     if is_debloat command exe classes level limit out input
     then Some (record { exe = exe; limit = digits_value limit; out = out; input = input })
     else None
-form_of _ = None
+debloat_of _ = None
+
+-- `check EXE`
+pub record Check : Type 0 where
+  pub exe : List ℕ
+
+abbrev pub is_check : List ℕ → List ℕ → Bool
+is_check command exe = bytes_eq command (codes "check") && is_name exe
+
+abbrev pub check_of : List (List ℕ) → Option Check
+check_of (command ∷ exe ∷ []) = if is_check command exe then Some (record { exe = exe }) else None
+check_of _ = None
+
+-- the forms
+pub data Form : Type 0 where
+  Debloating : Debloat → Form
+  Checking : Check → Form
+
+abbrev checking : Option Check → Option Form
+checking None = None
+checking (Some c) = Some (Checking c)
+
+abbrev pub first_form : Option Debloat → Option Check → Option Form
+first_form (Some d) c = Some (Debloating d)
+first_form None c = checking c
+
+-- the form that the words have, if any
+abbrev pub form_of : List (List ℕ) → Option Form
+form_of words = first_form (debloat_of words) (check_of words)

@@ -2,10 +2,10 @@
 
 ghost use Rattle.std.specs.Prelude.{◌≡◌, ℕ, ◌+◌, ◌^◌, ◌<◌, ◌≤◌, List, map};
 ghost use Rattle.rz_machine.specs.Added.{tables_size, code_size, stubs_size, lowest, page_floor as floor_of, parts_below as parts_under};
-ghost use Rattle.rz_machine.specs.Loaded.{loaded_region};
+ghost use Rattle.rz_elf.specs.Loaded.{loaded_region};
 ghost use Rattle.rz_core.specs.NewParts.{range_of};
 
-use rz_machine::elf::Load;
+use rz_elf::elf::Load;
 use rz_num::page_up;
 
 /// The bytes of a page, and of the scratch part.

@@ -7,36 +7,15 @@ ghost use Rattle.rz_core.specs.Commands.{words_of};
 ghost use Rattle.rz_core.specs.Making.{IsMade, IsOfThin};
 
 use crate::making::{Made, MakeRefusal, make};
+use crate::reading::{EXECUTABLE_MAX, TEXT_MAX, are_bytes, read};
 use crate::status::{Status, Target};
 use crate::words::Debloat;
-use rz_machine::elf::{Elf, ElfError};
+use rz_elf::elf::Elf;
+use rz_elf::fault::ElfError;
 use rz_machine::thin::read_thin;
 use rz_num::{Bytes, OutOfMemory, Text};
-use rz_outside::{ReadErr, Store, WriteErr};
+use rz_outside::{Store, WriteErr};
 use std::alloc::Global;
-
-/// How many bytes of an executable are asked for: one more than an accepted file has.
-const EXECUTABLE_MAX: u64 = 67_108_865;
-
-/// How many bytes of another file are asked for.
-const TEXT_MAX: u64 = 16_777_217;
-
-fn read<S: Store>(alloc: Global, store: &mut S, name: &Text, max: u64) -> Result<Bytes, Status>
-    ensures telling { S.told store.new ≡ S.told store.old }
-    ensures kept { SameFiles (S.files store.old) (S.files store.new) }
-    ensures count { S.faults store.old ≤ S.faults store.new }
-    ensures read { IfOk result (ReadsFirst (S.told store.old) (S.files store.old) name.now max) }
-    ensures cause { IfErr result (ReadRefusal name.now (record { told = S.told store.old; old = S.files store.old; new = S.files store.new; before = S.faults store.old; now = S.faults store.new; failed = S.failed_name store.new })) }
-{
-    let Ok(file) = Text::from_slice(alloc, name.as_slice()) else {
-        return Err(Status::OutOfMemory);
-    };
-    match store.read_all(alloc, name, max) {
-        Ok(bytes) => Ok(bytes),
-        Err(ReadErr::OutOfMemory) => Err(Status::OutOfMemory),
-        Err(ReadErr::Missing) | Err(ReadErr::Failed) => Err(Status::ReadFault { file }),
-    }
-}
 
 fn write<S: Store>(alloc: Global, store: &mut S, name: &Text, bytes: &Bytes) -> Result<(), Status>
     ensures telling { S.told store.new ≡ S.told store.old }
@@ -50,13 +29,6 @@ fn write<S: Store>(alloc: Global, store: &mut S, name: &Text, bytes: &Bytes) -> 
         Err(WriteErr::Failed) => Err(Status::WriteFault(Target::File)),
         Err(WriteErr::OutOfMemory) => Err(Status::OutOfMemory),
     }
-}
-
-// Each item of a list of bytes is below 256.
-fn are_bytes(bytes: &Bytes)
-    ensures { (i : ℕ) → slice_index bytes.now i < 256 }
-{
-    let _ = bytes.as_slice();
 }
 
 // The executable, where it is a thin file.

@@ -2,11 +2,15 @@
 #![tactic(auto)]
 
 pub mod added;
+mod check;
+#[cfg(test)]
+mod check_tests;
 mod debloat;
 pub mod emit;
 pub mod fragment;
 pub mod layout;
 pub mod making;
+mod reading;
 pub mod rewrite;
 pub mod status;
 #[cfg(test)]

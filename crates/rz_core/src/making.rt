@@ -1,7 +1,7 @@
 //! From a file to its new file: the trace, the new parts, the written file and the report.
 
 ghost use Rattle.std.specs.Prelude.{◌≡◌, ◌≤◌, length, IfOk, IfErr, OnOk};
-ghost use Rattle.rz_machine.specs.Loaded.{loaded};
+ghost use Rattle.rz_elf.specs.Loaded.{loaded};
 ghost use Rattle.rz_machine.specs.First.{decode_first};
 ghost use Rattle.rz_machine.specs.Added.{added};
 ghost use Rattle.rz_machine.specs.Keeps.{Keeps};
@@ -15,7 +15,7 @@ ghost use Rattle.rz_core.specs.Texts.{report_text};
 
 use crate::rewrite::{New, rewrite};
 use crate::texts;
-use rz_machine::elf::Elf;
+use rz_elf::elf::Elf;
 use rz_machine::first::First;
 use rz_machine::sys::Input;
 use rz_machine::trace::{Record, TraceRefusal, trace};

@@ -1,13 +1,14 @@
 //! The new file: the parts that are added to a file for what is kept.
 
 ghost use Rattle.std.specs.Prelude.{◌≡◌, ◌+◌, ◌-◌, ◌*◌, ◌^◌, ◌<◌, ◌≤◌, ◌++◌, length, replicate, All, IfOk};
-ghost use Rattle.rz_machine.specs.Memory.{zeros};
+ghost use Rattle.rz_image.specs.Memory.{zeros};
 ghost use Rattle.rz_machine.specs.Added.{added, all_stubs, filled as filled_with};
 ghost use Rattle.rz_machine.specs.First.{decode_first};
 ghost use Rattle.rz_machine.specs.Fragments.{fragments_bytes, total_len};
 ghost use Rattle.rz_machine.specs.Keeps.{Keeps};
-ghost use Rattle.rz_machine.specs.Loaded.{loaded, thin_elf, IsLoadable};
-ghost use Rattle.rz_machine.specs.PlainImage.{IsPlainImage};
+ghost use Rattle.rz_elf.specs.Loaded.{loaded};
+ghost use Rattle.rz_machine.specs.ThinElf.{thin_elf};
+ghost use Rattle.rz_elf.specs.PlainImage.{IsPlainImage};
 ghost use Rattle.rz_machine.specs.Rewritable.{IsRewritable};
 ghost use Rattle.rz_machine.specs.Rewritten.{HasRoom, IsRewritten, fragments_of as frags_of, place_of};
 ghost use Rattle.rz_machine.specs.Thin.{IsThin};
@@ -20,10 +21,10 @@ use crate::added::{AddedRange, lowest_load, page_floor, parts_below};
 use crate::emit::{emit, emit_stubs};
 use crate::fragment::{Fragments, are_bytes, fragments_of};
 use crate::layout::{Layout, lay_out};
-use rz_machine::elf::Elf;
+use rz_elf::elf::Elf;
+use rz_image::memory::Memory;
 use rz_machine::elf_write::{Parts, write_elf};
 use rz_machine::items::{Fragment, Label};
-use rz_machine::memory::Memory;
 use rz_machine::start::load_regions;
 use rz_machine::trace::Record;
 use rz_num::{Bytes, OutOfMemory};
@@ -43,7 +44,6 @@ pub struct New {
 pub fn rewrite(alloc: Global, elf: &Elf, kept: &Record) -> Result<New, OutOfMemory>
     requires thin { IsThin elf.now.bytes }
     requires read { elf.now ≡ thin_elf elf.now.bytes }
-    requires loadable { IsLoadable elf.now }
     requires rewritable { IsRewritable decode_first (loaded elf.now) kept.now }
     ensures file { IfOk result (λ new. new.bytes ≡ written_file elf.now.bytes (new_parts_of decode_first (loaded elf.now) kept.now) (place_of decode_first (loaded elf.now) kept.now elf.now.entry)) }
     ensures keeps { IfOk result (λ new. Keeps decode_first elf.now.bytes new.bytes kept.now) }
@@ -68,7 +68,6 @@ pub struct NewParts {
 
 /// The parts of the new file of what is kept. It refuses for want of memory alone.
 pub fn new_parts(alloc: Global, elf: &Elf, kept: &Record) -> Result<NewParts, OutOfMemory>
-    requires loadable { IsLoadable elf.now }
     requires plain { IsPlainImage (loaded elf.now) }
     requires rewritable { IsRewritable decode_first (loaded elf.now) kept.now }
     requires room { HasRoom decode_first (loaded elf.now) kept.now }
@@ -105,7 +104,6 @@ fn kept_fragments(
     kept: &Record,
     nodes: &[u64],
 ) -> Result<Fragments, OutOfMemory>
-    requires loadable { IsLoadable elf.now }
     requires plain { IsPlainImage (loaded elf.now) }
     requires rewritable { IsRewritable decode_first (loaded elf.now) kept.now }
     requires room { HasRoom decode_first (loaded elf.now) kept.now }

@@ -3,7 +3,7 @@
 ghost use Rattle.std.specs.Prelude.{◌≡◌};
 ghost use Rattle.rz_core.specs.Number.{number_of};
 
-use rz_machine::elf::ElfFault;
+use rz_elf::fault::ElfFault;
 use rz_num::Text;
 use thiserror::Error;
 

@@ -1,14 +1,10 @@
 // Worked command lines, over stores and sinks in memory.
 
-ghost use Rattle.std.specs.Prelude.{◌≡◌, ◌≤◌, IfOk};
-ghost use Rattle.rz_machine.specs.Loaded.{IsLoadable};
-
 use crate::status::number;
 use crate::tool::run_tool;
-use rz_machine::elf::{Elf, Load, Loads};
+use rz_elf::read::read_elf;
 use rz_machine::first::First;
 use rz_machine::machine::{End, Machine};
-use rz_machine::memory::Perm;
 use rz_machine::start::start;
 use rz_machine::sys::Input;
 use rz_machine::thin::read_thin;
@@ -28,7 +24,7 @@ const HEADERS: [u8; 120] = [
 ];
 
 // Writes `hi` and a line's end, and exits.
-const GREETING: [u8; 37] = [
+pub const GREETING: [u8; 37] = [
     0xb8, 1, 0, 0, 0, 0xbf, 1, 0, 0, 0, 0xbe, 0x22, 0x10, 0x40, 0, 0xba, 3, 0, 0, 0, 0x0f, 0x05,
     0xbf, 0, 0, 0, 0, 0xb8, 0x3c, 0, 0, 0, 0x0f, 0x05, b'h', b'i', b'\n',
 ];
@@ -37,7 +33,7 @@ const REPORT: &[u8] =
     b"{\"added\":\"0x3fd000\",\"edges\":7,\"instructions\":8,\"site_edges\":0,\"sites\":0}\n";
 
 // The thin file of a code.
-fn thin(alloc: Global, code: &[u8]) -> Result<Bytes, OutOfMemory> {
+pub fn thin(alloc: Global, code: &[u8]) -> Result<Bytes, OutOfMemory> {
     let mut headers = HEADERS;
     put_u64(&mut headers, 96, code.len() as u64);
     put_u64(&mut headers, 104, code.len() as u64);
@@ -65,7 +61,7 @@ fn files(alloc: Global, e: Bytes, i: &[u8]) -> Result<Vec<(Text, Bytes)>, OutOfM
 }
 
 // The status and the text for a line of words, where the listed calls of the store fail; and what `w` holds.
-fn answer(
+pub fn answer(
     rt: &impl Abort,
     alloc: Global,
     line: &str,
@@ -83,55 +79,6 @@ fn answer(
     Ok((number(&status), text, written))
 }
 
-// A written file of one page of code and one of stubs, by its five loads and its entry.
-fn written_elf(rt: &impl Abort, alloc: Global, bytes: Bytes, size: u64) -> Result<Elf, OutOfMemory>
-    requires { size ≤ 4096 }
-    ensures { IfOk result IsLoadable }
-{
-    assert!(rt; bytes.as_slice().len() == 24_576);
-    let open = Perm {
-        read: true,
-        write: true,
-        execute: false,
-    };
-    let code = Perm {
-        read: true,
-        write: false,
-        execute: true,
-    };
-    let data = Perm {
-        read: true,
-        write: false,
-        execute: false,
-    };
-    let mut loads = Vec::new(alloc);
-    loads.push(load(0x3f_d000, 4096, 0, 0, open, 0))?;
-    loads.push(load(0x3f_e000, 4096, 12_288, 4096, data, 1))?;
-    loads.push(load(0x3f_f000, 4096, 16_384, 4096, code, 2))?;
-    loads.push(load(0x40_0000, 4096, 20_480, 4096, code, 3))?;
-    loads.push(load(0x40_1000, size, 8192, size, data, 4))?;
-    Ok(Elf {
-        bytes,
-        loads: Loads::from_vec(loads),
-        entry: 0x3f_f000,
-        first_break: 0x40_2000,
-    })
-}
-
-fn load(at: u64, size: u64, file_at: u64, file_size: u64, perm: Perm, index: u32) -> Load
-    ensures { result ≡ record { at = at; size = size; file_at = file_at; file_size = file_size; align = 4096; perm = perm; index = index } }
-{
-    Load {
-        at,
-        size,
-        file_at,
-        file_size,
-        align: 4096,
-        perm,
-        index,
-    }
-}
-
 #[test]
 fn writes_hi(rt: HostRuntime) -> Result<(), Fail> {
     let alloc = rt.alloc();
@@ -141,7 +88,7 @@ fn writes_hi(rt: HostRuntime) -> Result<(), Fail> {
     assert_eq!(rt; status, 0);
     assert_eq!(rt; text.as_slice(), REPORT);
     let old = read_thin(alloc, thin(alloc, &GREETING)?)?;
-    let new = written_elf(&rt, alloc, w, 37)?;
+    let new = read_elf(alloc, w)?;
     let mut x = start(alloc, &old, &Input::empty(alloc))?;
     let mut y = start(alloc, &new, &Input::empty(alloc))?;
     x.run::<First>(alloc, 100)?;
@@ -169,7 +116,7 @@ fn cut_at_the_limit(rt: HostRuntime) -> Result<(), Fail> {
     let report =
         b"{\"added\":\"0x3fd000\",\"edges\":0,\"instructions\":1,\"site_edges\":0,\"sites\":0}\n";
     assert_eq!(rt; text.as_slice(), report.as_slice());
-    let new = written_elf(&rt, alloc, w, 5)?;
+    let new = read_elf(alloc, w)?;
     let mut y = start(alloc, &new, &Input::empty(alloc))?;
     y.run::<First>(alloc, 100)?;
     assert!(rt; y.end == Some(End::Illegal(0x40_0000)));
@@ -194,7 +141,7 @@ fn counts_down(rt: HostRuntime) -> Result<(), Fail> {
         b"{\"added\":\"0x3fd000\",\"edges\":7,\"instructions\":7,\"site_edges\":0,\"sites\":0}\n";
     assert_eq!(rt; text.as_slice(), report.as_slice());
     let old = read_thin(alloc, thin(alloc, &COUNTDOWN)?)?;
-    let new = written_elf(&rt, alloc, w, 25)?;
+    let new = read_elf(alloc, w)?;
     for elf in [&old, &new] {
         let mut machine = start(alloc, elf, &Input::empty(alloc))?;
         machine.run::<First>(alloc, 1000)?;
@@ -213,7 +160,7 @@ fn counts_down_up_to_a_cut(rt: HostRuntime) -> Result<(), Fail> {
     let report =
         b"{\"added\":\"0x3fd000\",\"edges\":3,\"instructions\":4,\"site_edges\":0,\"sites\":0}\n";
     assert_eq!(rt; text.as_slice(), report.as_slice());
-    let new = written_elf(&rt, alloc, w, 25)?;
+    let new = read_elf(alloc, w)?;
     let mut y = start(alloc, &new, &Input::empty(alloc))?;
     y.run::<First>(alloc, 1000)?;
     // The stub of 0x40100b is the fourth.
@@ -245,7 +192,7 @@ fn refusals_name_their_cause(rt: HostRuntime) -> Result<(), Fail> {
         Vec::new(alloc),
     )?;
     assert_eq!(rt; status, 2);
-    assert_eq!(rt; text.as_slice(), b"refused e Unbuilt\n".as_slice());
+    assert_eq!(rt; text.as_slice(), b"refused e Short\n".as_slice());
     let e = thin(alloc, &GREETING)?;
     let (status, text, _) = answer(
         &rt,
@@ -278,7 +225,8 @@ fn words_of_no_form(rt: HostRuntime) -> Result<(), Fail> {
         "",
         "debloat e - exact 0 w i",
         "debloat e - Exact 1 w i",
-        "check e",
+        "check",
+        "check e i",
     ] {
         let (status, text, _) = answer(&rt, alloc, line, Bytes::new(alloc), &[], Vec::new(alloc))?;
         assert_eq!(rt; status, 1);

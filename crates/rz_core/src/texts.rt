@@ -1,10 +1,10 @@
 //! The texts that the tool puts.
 
 ghost use Rattle.std.specs.Prelude.{◌≡◌, string_bytes, IfOk};
-ghost use Rattle.rz_core.specs.Texts.{report_text, fault_text as text_of_fault, refusal_text as text_of_refusal};
+ghost use Rattle.rz_core.specs.Texts.{report_text, check_text, fault_text as text_of_fault, refusal_text as text_of_refusal};
 
 use crate::status::{Status, Target};
-use rz_machine::elf::ElfFault;
+use rz_elf::fault::ElfFault;
 use std::alloc::{AllocError, Global};
 
 /// The report of a debloating.
@@ -21,6 +21,13 @@ pub fn report(
     format!(in alloc;
         "{{\"added\":\"0x{added:x}\",\"edges\":{edges},\"instructions\":{instructions},\"site_edges\":{site_edges},\"sites\":{sites}}}\n"
     )
+}
+
+/// What is said of an accepted file.
+pub fn check(alloc: Global, loads: u64, entry: u64, first_break: u64) -> Result<String, AllocError>
+    ensures { IfOk result (λ s. string_bytes s ≡ check_text loads entry first_break) }
+{
+    format!(in alloc; "ok loads {loads} entry 0x{entry:x} break 0x{first_break:x}\n")
 }
 
 fn fault_text(alloc: Global, fault: ElfFault) -> Result<String, AllocError>

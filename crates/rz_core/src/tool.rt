@@ -1,16 +1,18 @@
 //! The top call: a command line over a store of files and a sink of text.
 
 ghost use Rattle.std.specs.Prelude.{◌≡◌, ◌≤◌, Some, None};
+ghost use Rattle.rz_outside.specs.StoreAnswers.{SameFiles};
 ghost use Rattle.rz_core.specs.Words.{form_of};
-ghost use Rattle.rz_core.specs.Commands.{words_of};
+ghost use Rattle.rz_core.specs.Commands.{words_of, check_words_of};
 ghost use Rattle.rz_core.specs.Exact.{AnswersExactly};
 ghost use Rattle.rz_core.specs.Headline.{Headline};
-ghost use Rattle.rz_core.specs.Causes.{CauseOf, HasCause, FilesAfterForm, FilesAfter, SinkAfter, PutAfter, RefusedAfter};
+ghost use Rattle.rz_core.specs.Causes.{CauseOf, CheckCause, HasCause, FilesAfterForm, FilesAfter, SinkAfter, SinkAfterForm, SinkAfterCheck, PutAfter, RefusedAfter};
 
+use crate::check::check;
 use crate::debloat::debloat;
 use crate::status::{Status, Target};
 use crate::texts::refusal;
-use crate::words::{Debloat, form};
+use crate::words::{Check, Debloat, Form, read_form};
 use rz_num::{Bytes, Text};
 use rz_outside::{PutErr, Sink, Store};
 use std::alloc::Global;
@@ -60,10 +62,25 @@ fn run_debloat<S: Store, K: Sink>(
     ensures sink_count { K.faults out.old ≤ K.faults out.new }
     ensures cause { CauseOf (words_of d.now) (record { told = S.told store.old; old = S.files store.old; new = S.files store.new; before = S.faults store.old; now = S.faults store.new; failed = S.failed_name store.new }) (record { old = K.written out.old; new = K.written out.new; before = K.faults out.old; now = K.faults out.new }) result }
     ensures files { FilesAfterForm (words_of d.now) (record { told = S.told store.old; old = S.files store.old; new = S.files store.new; before = S.faults store.old; now = S.faults store.new; failed = S.failed_name store.new }) result }
-    ensures sink { SinkAfter (Some (words_of d.now)) (record { told = S.told store.old; old = S.files store.old; new = S.files store.new; before = S.faults store.old; now = S.faults store.new; failed = S.failed_name store.new }) (record { old = K.written out.old; new = K.written out.new; before = K.faults out.old; now = K.faults out.new }) result }
+    ensures sink { SinkAfterForm (words_of d.now) (record { told = S.told store.old; old = S.files store.old; new = S.files store.new; before = S.faults store.old; now = S.faults store.new; failed = S.failed_name store.new }) (record { old = K.written out.old; new = K.written out.new; before = K.faults out.old; now = K.faults out.new }) result }
 {
     match debloat(alloc, d, store) {
         Ok(report) => put_text(out, &report),
+        Err(status) => refuse(alloc, out, status),
+    }
+}
+
+// The command `check`, up to its text.
+fn run_check<S: Store, K: Sink>(alloc: Global, c: &Check<'_>, store: &mut S, out: &mut K) -> Status
+    ensures telling { S.told store.new ≡ S.told store.old }
+    ensures store_count { S.faults store.old ≤ S.faults store.new }
+    ensures sink_count { K.faults out.old ≤ K.faults out.new }
+    ensures cause { CheckCause (check_words_of c.now) (record { told = S.told store.old; old = S.files store.old; new = S.files store.new; before = S.faults store.old; now = S.faults store.new; failed = S.failed_name store.new }) (record { old = K.written out.old; new = K.written out.new; before = K.faults out.old; now = K.faults out.new }) result }
+    ensures files { SameFiles (S.files store.old) (S.files store.new) }
+    ensures sink { SinkAfterCheck (check_words_of c.now) (record { told = S.told store.old; old = S.files store.old; new = S.files store.new; before = S.faults store.old; now = S.faults store.new; failed = S.failed_name store.new }) (record { old = K.written out.old; new = K.written out.new; before = K.faults out.old; now = K.faults out.new }) result }
+{
+    match check(alloc, c, store) {
+        Ok(text) => put_text(out, &text),
         Err(status) => refuse(alloc, out, status),
     }
 }
@@ -84,8 +101,9 @@ pub fn run_tool<S: Store, K: Sink>(
     ensures files { FilesAfter (form_of words.now.items) (record { told = S.told store.old; old = S.files store.old; new = S.files store.new; before = S.faults store.old; now = S.faults store.new; failed = S.failed_name store.new }) result }
     ensures sink { SinkAfter (form_of words.now.items) (record { told = S.told store.old; old = S.files store.old; new = S.files store.new; before = S.faults store.old; now = S.faults store.new; failed = S.failed_name store.new }) (record { old = K.written out.old; new = K.written out.new; before = K.faults out.old; now = K.faults out.new }) result }
 {
-    match form(words) {
+    match read_form(words) {
         None => refuse(alloc, out, Status::Usage),
-        Some(d) => run_debloat(alloc, &d, store, out),
+        Some(Form::Debloat(d)) => run_debloat(alloc, &d, store, out),
+        Some(Form::Check(c)) => run_check(alloc, &c, store, out),
     }
 }

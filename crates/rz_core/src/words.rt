@@ -2,7 +2,8 @@
 
 ghost use Rattle.std.specs.Prelude.{◌≡◌, ◌≤◌, ◌-◌, ◌*◌, ◌^◌, ◌<◌, ◌&&◌, MatchOption, IfSome, min, Some, None};
 ghost use Rattle.std.specs.List.{list_all};
-ghost use Rattle.rz_core.specs.Words.{form_of, is_digit as is_digit_of, is_number as is_number_of, digits_value, is_limit as is_limit_of, is_name as is_name_of, is_debloat as is_debloat_of};
+ghost use Rattle.rz_core.specs.Words.{form_of, debloat_of, check_of, is_check as is_check_of, is_digit as is_digit_of, is_number as is_number_of, digits_value, is_limit as is_limit_of, is_name as is_name_of, is_debloat as is_debloat_of};
+ghost use Rattle.rz_core.specs.Commands.{words_of, check_words_of, form_words_of, HasSteps};
 
 use rz_num::Text;
 
@@ -16,9 +17,50 @@ pub struct Debloat<'a> {
     pub input: &'a Text,
 }
 
+/// `check EXE`.
+#[derive(Drop)]
+pub struct Check<'a> {
+    pub exe: &'a Text,
+}
+
+/// The forms of the command line.
+#[derive(Drop)]
+pub enum Form<'a> {
+    Debloat(Debloat<'a>),
+    Check(Check<'a>),
+}
+
 /// The form that the words have, if any.
-pub fn form(words: &Vec<Text>) -> Option<Debloat<'_>>
-    ensures form { MatchOption result (form_of words.now.items ≡ None) (λ d. form_of words.now.items ≡ Some (record { exe = d.exe.now; limit = d.limit; out = d.out.now; input = d.input.now })) }
+pub fn read_form(words: &Vec<Text>) -> Option<Form<'_>>
+    ensures form { MatchOption result (form_of words.now.items ≡ None) (λ f. form_of words.now.items ≡ Some (form_words_of f)) }
+    ensures some { IfSome result HasSteps }
+{
+    if let Some(debloat) = debloat_form(words) {
+        return Some(Form::Debloat(debloat));
+    }
+    match check_form(words) {
+        Some(check) => Some(Form::Check(check)),
+        None => None,
+    }
+}
+
+fn check_form(words: &Vec<Text>) -> Option<Check<'_>>
+    ensures { MatchOption result (check_of words.now.items ≡ None) (λ c. check_of words.now.items ≡ Some (check_words_of c)) }
+{
+    match words.as_slice() {
+        [command, exe] if is_check(command, exe) => Some(Check { exe }),
+        _ => None,
+    }
+}
+
+fn is_check(command: &Text, exe: &Text) -> bool
+    ensures { result ≡ is_check_of command.now exe.now }
+{
+    command.as_slice() == "check" && is_name(exe)
+}
+
+fn debloat_form(words: &Vec<Text>) -> Option<Debloat<'_>>
+    ensures form { MatchOption result (debloat_of words.now.items ≡ None) (λ d. debloat_of words.now.items ≡ Some (words_of d)) }
     ensures some { IfSome result (λ d. 1 ≤ d.limit) }
 {
     match words.as_slice() {

@@ -3,11 +3,11 @@ use Rattle.std.proofs.Common.{◌≡◌, ℕ, ◌-◌, ◌*◌, ◌%◌, ◌<◌
 use Rattle.rz_machine.specs.declared.decode.Decoded.{Decoded}
 use Rattle.rz_machine.specs.declared.decode.Decoded.TheVariants as decoded
 use Rattle.rz_machine.specs.declared.trace.Record.{Record}
-use Rattle.rz_machine.specs.Memory.{Regions, fetch}
+use Rattle.rz_image.specs.Memory.{Regions, fetch}
 use Rattle.rz_machine.specs.Insn.{Way, Onward, Jumps, Branches, Calls, Halts, way_of, kind_in, kind_of, is_site}
 use Rattle.rz_machine.specs.Nodes.{is_site_at}
 use Rattle.rz_machine.specs.First.{decode_first}
-use Rattle.rz_machine.specs.Elf.{image_of, fault_of}
+use Rattle.rz_elf.specs.Elf.{image_of, fault_of}
 use Rattle.rz_machine.specs.Added.{Added, sites, site_edges, tables_size, code_size, stubs_size, parts_below, added, all_stubs, filled}
 use Rattle.rz_machine.specs.WrittenFile.{Parts, IsAdded, stubs_part, written_file, new_image, Inert}
 use Rattle.rz_machine.specs.Thin.{thin_base, thin_file, IsThin}

@@ -5,7 +5,7 @@ use Rattle.rz_machine.specs.declared.machine.Machine.{Machine}
 use Rattle.rz_machine.specs.declared.sys.Reply.{Reply}
 use Rattle.rz_machine.specs.declared.sys.Reply.TheVariants.{Full, AtMost, Error}
 use Rattle.rz_machine.specs.declared.sys.World.{World}
-use Rattle.rz_machine.specs.Memory.{Regions, refused, is_readable}
+use Rattle.rz_image.specs.Memory.{Regions, refused, is_readable}
 use Rattle.rz_machine.specs.Answer.{Called, Call, Write, NoFile, Exit, Other, next_reply, write_reply, write_allowed, whole, no_wrap, cut_count, answer_as, call_in, rdi, rsi, rdx, answer, world_after}
 use Rattle.rz_machine.specs.State.{after_exit, after_call}
 use Rattle.rz_machine.specs.Left.{answer_put, regs_left}

@@ -1,12 +1,12 @@
 -- What may be executed, and the permissions of a range, stay as they are.
 use Rattle.std.proofs.Common.{◌≡◌, ◌≢◌, ℕ, zero, suc, ◌+◌, ⊎_elim, Bool, true, false, if◌then◌else◌, refl, sym, ap, ap₂, ◌∙◌, subst}
 use Rattle.std.proofs.lemmas.Bool.{cases_eq}
-use Rattle.rz_machine.specs.declared.memory.Cell.{Cell}
+use Rattle.rz_image.specs.Memory.{Cell}
 use Rattle.rz_machine.specs.declared.machine.Machine.{Machine}
-use Rattle.rz_machine.specs.Memory.{Regions, Range, cell_at, put_byte, code_of, fetched, fetch, SameCode, NoSelfWritten, SamePerms, PermsStand}
+use Rattle.rz_image.specs.Memory.{Regions, Range, cell_at, put_byte, code_of, fetched, fetch, SameCode, NoSelfWritten, SamePerms, PermsStand}
 use Rattle.rz_machine.specs.Insn.{Decoder}
 use Rattle.rz_machine.specs.State.{step, after}
-use Rattle.rz_machine.proofs.MemoryLaws.{set_byte, cell_at-put_same, cell_at-put_other}
+use Rattle.rz_image.proofs.MemoryLaws.{set_byte, cell_at-put_same, cell_at-put_other}
 use Rattle.rz_machine.proofs.StepLaws.{StandsPut, step_stands, after_stands}
 
 -- the same code is fetched alike

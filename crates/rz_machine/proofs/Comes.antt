@@ -7,7 +7,7 @@ use Rattle.rz_machine.specs.declared.insn.Insn.TheVariants as insn
 use Rattle.rz_machine.specs.declared.decode.Decoded.TheVariants as decoded
 use Rattle.rz_machine.specs.declared.machine.End.TheVariants as end
 use Rattle.rz_machine.specs.declared.machine.Machine.{Machine}
-use Rattle.rz_machine.specs.Memory.{Regions, Range, fetch, wrap}
+use Rattle.rz_image.specs.Memory.{Regions, Range, fetch, wrap}
 use Rattle.rz_machine.specs.Insn.{Decoder, Jumps, Branches, Halts, way_of}
 use Rattle.rz_machine.specs.Effect.{carry, read_words}
 use Rattle.rz_machine.specs.State.{step, after, running, act, perform, perform_by, onward, stopped, decoded_at}

@@ -7,7 +7,7 @@ use Rattle.rz_machine.specs.declared.decode.Decoded.TheVariants as decoded
 use Rattle.rz_machine.specs.declared.items.Label.{Label}
 use Rattle.rz_machine.specs.declared.items.Item.{Item}
 use Rattle.rz_machine.specs.declared.items.Fragment.{Fragment}
-use Rattle.rz_machine.specs.Memory.{Regions, wrap}
+use Rattle.rz_image.specs.Memory.{Regions, wrap}
 use Rattle.rz_machine.specs.Insn.{Decoder}
 use Rattle.rz_machine.specs.Keeps.{Edges}
 use Rattle.rz_machine.specs.Nodes.{spelled_at}

@@ -10,7 +10,7 @@ use Rattle.rz_machine.specs.declared.machine.End.{End}
 use Rattle.rz_machine.specs.declared.machine.End.TheVariants as end
 use Rattle.rz_machine.specs.declared.machine.Machine.{Machine}
 use Rattle.rz_machine.specs.declared.sys.World.{World}
-use Rattle.rz_machine.specs.Memory.{Regions, IsInside}
+use Rattle.rz_image.specs.Memory.{Regions, IsInside}
 use Rattle.rz_machine.specs.Insn.{Decoder, Way, Onward, Jumps, Branches, Calls, Halts, way_of}
 use Rattle.rz_machine.specs.First.{mov_number}
 use Rattle.rz_machine.specs.Effect.{Effect, PlainEffect, plain_effect, plainly, effect_by, Done, Went, Stopped, carry, read_words, EffectClear}

@@ -4,7 +4,7 @@ use Rattle.rz_machine.specs.declared.insn.Insn.TheVariants as insn
 use Rattle.rz_machine.specs.declared.decode.Decoded.TheVariants as decoded
 use Rattle.rz_machine.specs.declared.machine.End.TheVariants as end
 use Rattle.rz_machine.specs.declared.machine.Machine.{Machine}
-use Rattle.rz_machine.specs.Memory.{fetch, cell_at, refused, bytes_at}
+use Rattle.rz_image.specs.Memory.{fetch, cell_at, refused, bytes_at}
 use Rattle.rz_machine.specs.Effect.{carry, read_words}
 use Rattle.rz_machine.specs.Answer.{answer}
 use Rattle.rz_machine.specs.State.{step, after}

@@ -4,7 +4,8 @@ use Rattle.std.specs.Prelude.{flat_map}
 use Rattle.std.specs.List.{AllByRecursion}
 use Rattle.byteorder.specs.Endian.{little_bytes, little_number}
 use Rattle.byteorder.specs.Numbers.{little_number-reads_back}
-use Rattle.rz_machine.specs.Elf.{Segment, segment_of, segments_of}
+use Rattle.rz_elf.specs.Elf.{segment_of, segments_of}
+use Rattle.rz_elf.specs.declared.segment.Segment.{Segment}
 use Rattle.rz_machine.specs.WrittenFile.{segment_bytes}
 
 -- the fields of a program header fit their places

@@ -1,24 +1,37 @@
 -- The memory of a new file: its added parts, and the old loads without the permission to execute.
-use Rattle.std.proofs.Common.{◌≡◌, ℕ, ◌+◌, ◌-◌, ◌<◌, ◌≤◌, inl, inr, ⊎_elim, Bool, true, false, ◌&&◌, if◌then◌else◌, List, [], ◌∷◌, ◌++◌, length, map, get_or, Some, None, refl, ap, ◌∙◌, arith, lt-ltb}
+use Rattle.std.proofs.Common.{◌≡◌, ℕ, ◌+◌, ◌-◌, ◌/◌, ◌%◌, ◌==◌, nat_lt, ◌<◌, ◌≤◌, inl, inr, ⊎_elim, Bool, true, false, ◌&&◌, if◌then◌else◌, List, [], ◌∷◌, ◌++◌, length, map, get_or, Some, None, refl, ap, ◌∙◌, arith, lt-ltb}
 use Rattle.std.specs.List.{AllByRecursion}
 use Rattle.std.proofs.lemmas.Bool.{cond-true, cond-false}
-use Rattle.rz_machine.specs.declared.memory.Region.{Region}
-use Rattle.rz_machine.specs.Memory.{Regions, contains, cell_in, cell_at, code_of, IsOutside, SameCell, zeros, whole_region}
+use Rattle.std.proofs.lemmas.Bool.Decides.{nat_tests}
+use Rattle.rz_image.specs.declared.region.Region.{Region}
+use Rattle.rz_image.specs.Perm.{has_flag}
+use Rattle.rz_image.specs.Memory.{Regions, contains, cell_in, cell_at, code_of, IsOutside, SameCell, zeros, whole_region}
 use Rattle.rz_machine.specs.Added.{scratch_size}
-use Rattle.rz_machine.specs.WrittenFile.{Parts, read_write, read_only, read_execute, added_regions, without_code}
+use Rattle.rz_machine.specs.WrittenFile.{Parts, added_regions, without_code}
+use Rattle.rz_image.specs.Perm.{read_write, read_only, read_execute}
 use Rattle.rz_machine.proofs.Placed.{BytesAt, bytes_from}
-use Rattle.rz_machine.proofs.ThinLaws.{length-zeros}
-use Rattle.rz_machine.proofs.Cells.{apart, inside, IsFixed}
+use Rattle.rz_image.proofs.Zeros.{length-zeros}
+use Rattle.rz_image.proofs.Cells.{apart, inside, IsFixed}
 
 -- two lists of regions
 pub all_append : (P : Region → Type 0) (m n : Regions) → AllByRecursion P m → AllByRecursion P n → AllByRecursion P (m ++ n)
 all_append P [] n h k = k
 all_append P (r ∷ rs) n h k = (h.0, all_append P rs n h.1 k)
 
+-- what is left of permissions without the one to execute
+no_execute : (p : ℕ) → has_flag (p - p % 2) 1 ≡ false
+no_execute p = let even : (p - p % 2) % 2 ≡ 0 = omega arith in grind (arith, nat_tests, even)
+
+same_write : (p : ℕ) → has_flag p 2 ≡ has_flag (p - p % 2) 2
+same_write p = let half : p / 2 ≡ (p - p % 2) / 2 = omega arith in ap (λ n. n % 2 == 1) half
+
+same_read : (p : ℕ) → has_flag p 4 ≡ has_flag (p - p % 2) 4
+same_read p = let quarter : p / 4 ≡ (p - p % 2) / 4 = omega arith in ap (λ n. n % 2 == 1) quarter
+
 -- without the permission to execute no region is both written and executed
 pub stripped_fixed : (m : Regions) → AllByRecursion IsFixed (map without_code m)
 stripped_fixed [] = tt
-stripped_fixed (r ∷ rs) = (λ e. refl, stripped_fixed rs)
+stripped_fixed (r ∷ rs) = (λ e. no_execute r.perm.0, stripped_fixed rs)
 
 -- and each cell is the same
 pub stripped_same : (m n : Regions) (a : ℕ) → SameCell (cell_at (m ++ n) a) (cell_at (map without_code m ++ n) a)
@@ -27,7 +40,11 @@ stripped_same [] n a = record { byte = refl; read = refl; write = refl }
 stripped_same (r ∷ rs) n a = go (contains r a) (stripped_same rs n a)
   where
     go : (c : Bool) → SameCell (cell_at (rs ++ n) a) (cell_at (map without_code rs ++ n) a) → SameCell (if c then cell_in r (a - r.base) else cell_at (rs ++ n) a) (if c then cell_in (without_code r) (a - r.base) else cell_at (map without_code rs ++ n) a)
-    go true ih = record { byte = refl; read = refl; write = refl }
+    go true ih = record {
+      byte = refl;
+      read = ap (λ b. nat_lt (a - r.base) r.opened && b) (same_read r.perm.0);
+      write = ap (λ b. nat_lt (a - r.base) r.opened && b) (same_write r.perm.0);
+    }
     go false ih = ih
 
 -- a cell of a region of code

@@ -10,19 +10,19 @@ use Rattle.rz_machine.specs.declared.machine.End.TheVariants as end
 use Rattle.rz_machine.specs.declared.machine.Machine.{Machine}
 use Rattle.rz_machine.specs.declared.sys.Input.{Input}
 use Rattle.rz_machine.specs.declared.trace.Record.{Record}
-use Rattle.rz_machine.specs.Memory.{Regions, IsOutside, SameCell, Alike, cell_at, wrap}
+use Rattle.rz_image.specs.Memory.{Regions, IsOutside, SameCell, Alike, cell_at, wrap}
 use Rattle.rz_machine.specs.State.{step}
 use Rattle.rz_machine.specs.Touches.{StepClear}
 use Rattle.rz_machine.specs.Start.{start, heap_region, stack_region, first_regs, first_rsp}
 use Rattle.rz_machine.specs.First.{decode_first}
-use Rattle.rz_machine.specs.Elf.{Image}
+use Rattle.rz_elf.specs.Elf.{Image}
 use Rattle.rz_machine.specs.Added.{Added, Layout, added, layout_of, all_stubs}
 use Rattle.rz_machine.specs.WrittenFile.{Parts, added_regions, without_code, new_image}
 use Rattle.rz_machine.specs.Keeps.{KeepsRun}
 use Rattle.rz_machine.specs.Pace.{Paced}
 use Rattle.rz_machine.specs.Rewritable.{IsRewritable, has_node}
 use Rattle.rz_machine.specs.Fragments.{items_of, items_for, trimmed, items_len, address_of, items_bytes}
-use Rattle.rz_machine.specs.PlainImage.{IsPlainImage}
+use Rattle.rz_elf.specs.PlainImage.{IsPlainImage}
 use Rattle.rz_machine.specs.Rewritten.{HasRoom, IsRewritten, fragments_of, place_of, code_of_nodes}
 use Rattle.rz_machine.proofs.CodeLaws.{HasCode}
 use Rattle.rz_machine.proofs.RegLaws.{AreRegs, set_regs}
@@ -32,7 +32,7 @@ use Rattle.rz_machine.proofs.Comes.{step_is, halt_is}
 use Rattle.rz_machine.proofs.Fragment.{FragmentAt, fragment_follows}
 use Rattle.rz_machine.proofs.Trimmed.{spelled_trimmed, spelled_items_of, length-trimmed, length-items_of, fragment_stands}
 use Rattle.rz_machine.proofs.Emitted.{items, Found, found}
-use Rattle.rz_machine.proofs.Cells.{IsFixed, none_self_written}
+use Rattle.rz_image.proofs.Cells.{IsFixed, none_self_written}
 use Rattle.rz_machine.proofs.Images.{all_append, stripped_fixed, stripped_same, Whole, code_at, stubs_at, stop_at, code_there, stubs_there, beside, added_fixed}
 use Rattle.rz_machine.proofs.PlainNodes.{plain_fixed, Stands, stands}
 use Rattle.rz_machine.proofs.Parts.{Lie, stub_found}

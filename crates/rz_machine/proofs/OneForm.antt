@@ -1,8 +1,8 @@
 -- Two states that are alike have alike effects.
 use Rattle.std.proofs.Common.{◌≡◌, ℕ, zero, suc, ◌+◌, ◌^◌, ◌<◌, ◌≤◌, ◌⊎◌, inl, inr, ⊎_elim, Bool, true, false, if◌then◌else◌, List, [], ◌∷◌, length, Option, Some, None, Result, Ok, Err, refl, sym, ap₂, subst, arith, min, leb-true, mod-eq_of_lt}
 use Rattle.byteorder.specs.Endian.{little_bytes, little_number}
-use Rattle.rz_machine.specs.declared.memory.Cell.{Cell}
-use Rattle.rz_machine.specs.Memory.{Regions, Range, IsOutside, IsClear, SameCell, Alike, bytes_at, refused, is_readable, is_writable, wrap}
+use Rattle.rz_image.specs.Memory.{Cell}
+use Rattle.rz_image.specs.Memory.{Regions, Range, IsOutside, IsClear, SameCell, Alike, bytes_at, refused, is_readable, is_writable, wrap}
 use Rattle.rz_flags.specs.declared.Flags.{Flags}
 use Rattle.rz_machine.specs.declared.sys.Reply.{Reply}
 use Rattle.rz_machine.specs.declared.sys.Reply.TheVariants.{Full, AtMost, Error}
@@ -10,7 +10,7 @@ use Rattle.rz_machine.specs.declared.sys.World.{World}
 use Rattle.rz_machine.specs.Effect.{Access, Effect, Outcome, Goes, Stops, Done, Went, Stopped, carry, carry_out, after_reads, stored, read_words, with_word, ReadsClear, WriteClear, EffectClear}
 use Rattle.rz_machine.specs.Answer.{Called, Call, Write, Exit, Other, NoFile, CallClear, answer_as, write_allowed, write_reply, next_reply, whole, no_wrap, cut_count}
 use Rattle.byteorder.specs.Numbers.{length-bytes_low_first}
-use Rattle.rz_machine.proofs.MemoryLaws.{head_clear, tail_clear, alike_puts}
+use Rattle.rz_image.proofs.MemoryLaws.{head_clear, tail_clear, alike_puts}
 
 -- a shorter access is clear too
 fewer_clear : (r : Range) (a n k : ℕ) → k ≤ n → IsClear r a n → IsClear r a k

@@ -3,7 +3,7 @@ use Rattle.std.proofs.Common.{ℕ, List, Option, Some, None, Result, Ok, Err}
 use Rattle.rz_flags.specs.declared.Flags.{Flags}
 use Rattle.rz_machine.specs.declared.machine.End.{End}
 use Rattle.rz_machine.specs.declared.machine.End.TheVariants as end
-use Rattle.rz_machine.specs.Memory.{Regions, refused, is_writable}
+use Rattle.rz_image.specs.Memory.{Regions, refused, is_writable}
 use Rattle.rz_machine.specs.Effect.{Access, Effect, Outcome, Goes, Stops, Done, Went, Stopped, carry, carry_out, after_reads, stored, read_words}
 
 -- a property of where a transfer leads, and one of the ends, which a refused access has

@@ -6,7 +6,7 @@ use Rattle.rz_machine.specs.declared.decode.Decoded.TheVariants as decoded
 use Rattle.rz_machine.specs.declared.items.Label.{Label}
 use Rattle.rz_machine.specs.declared.items.Item.{Item}
 use Rattle.rz_machine.specs.declared.items.Item.TheVariants as item
-use Rattle.rz_machine.specs.Memory.{Regions, cell_at, code_of, fetched, fetch, wrap}
+use Rattle.rz_image.specs.Memory.{Regions, cell_at, code_of, fetched, fetch, wrap}
 use Rattle.rz_machine.specs.Insn.{Decoder}
 use Rattle.rz_machine.specs.Nodes.{spelled_at}
 use Rattle.rz_machine.specs.First.{decode_first, spelling, spelling_len, HasSpelling}

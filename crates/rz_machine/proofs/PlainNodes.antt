@@ -4,14 +4,15 @@ use Rattle.std.specs.List.{AllByRecursion}
 use Rattle.rz_machine.specs.declared.insn.Insn.{Insn}
 use Rattle.rz_machine.specs.declared.decode.Decoded.{Decoded}
 use Rattle.rz_machine.specs.declared.decode.Decoded.TheVariants as decoded
-use Rattle.rz_machine.specs.Memory.{Regions, cell_at, fetch}
+use Rattle.rz_image.specs.Memory.{Regions, cell_at, fetch}
 use Rattle.rz_machine.specs.Nodes.{spelled_at}
 use Rattle.rz_machine.specs.First.{decode_first, Spells}
 use Rattle.rz_machine.specs.TableLaws.{NamesInsn}
 use Rattle.rz_machine.specs.FirstLaws.{names_insns, spelled_where_decoded}
-use Rattle.rz_machine.specs.Elf.{Image}
-use Rattle.rz_machine.specs.PlainImage.{IsPlainImage, IsPlainRegion}
-use Rattle.rz_machine.proofs.Cells.{IsFixed, all_map, plain_cell, fetch_bytes, fetch_low, fetch_first}
+use Rattle.rz_elf.specs.Elf.{Image}
+use Rattle.rz_elf.specs.PlainImage.{IsPlainImage, IsPlainRegion}
+use Rattle.rz_image.proofs.Cells.{IsFixed, all_map, fetch_bytes, fetch_low, fetch_first}
+use Rattle.rz_elf.proofs.PlainCells.{plain_cell}
 
 -- no region of a plain image is both written and executed
 pub plain_fixed : (m : Regions) → AllByRecursion IsPlainRegion m → AllByRecursion IsFixed m

@@ -5,8 +5,8 @@ use Rattle.rz_machine.specs.declared.machine.End.{End}
 use Rattle.rz_machine.specs.declared.machine.Machine.{Machine}
 use Rattle.rz_machine.specs.declared.sys.Input.{Input}
 use Rattle.rz_machine.specs.declared.trace.Record.{Record}
-use Rattle.rz_machine.specs.Memory.{Regions, NoSelfWritten}
-use Rattle.rz_machine.specs.Elf.{Image}
+use Rattle.rz_image.specs.Memory.{Regions, NoSelfWritten}
+use Rattle.rz_elf.specs.Elf.{Image}
 use Rattle.rz_machine.specs.Insn.{Decoder}
 use Rattle.rz_machine.specs.State.{step, after}
 use Rattle.rz_machine.specs.Start.{start}

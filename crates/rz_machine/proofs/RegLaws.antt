@@ -17,7 +17,7 @@ use Rattle.rz_machine.specs.declared.machine.Machine.{Machine}
 use Rattle.rz_machine.specs.declared.sys.Reply.{Reply}
 use Rattle.rz_machine.specs.declared.sys.Reply.TheVariants.{Full, AtMost, Error}
 use Rattle.rz_machine.specs.declared.sys.World.{World}
-use Rattle.rz_machine.specs.Memory.{Regions, wrap}
+use Rattle.rz_image.specs.Memory.{Regions, wrap}
 use Rattle.rz_machine.specs.Insn.{Decoder}
 use Rattle.rz_machine.specs.Effect.{carry, read_words, written, put_reg, is_written}
 use Rattle.rz_machine.specs.Answer.{Called, Call, Write, NoFile, Exit, Other, answer, answer_as, call_in, cut_count, write_allowed, write_reply, next_reply}

@@ -5,12 +5,12 @@ use Rattle.rz_machine.specs.declared.items.Label.{Label}
 use Rattle.rz_machine.specs.declared.items.Label.TheVariants as label
 use Rattle.rz_machine.specs.declared.trace.Record.{Record}
 use Rattle.rz_machine.specs.Insn.{Decoder}
-use Rattle.rz_machine.specs.Elf.{Image}
+use Rattle.rz_elf.specs.Elf.{Image}
 use Rattle.rz_machine.specs.Added.{Added, added, lowest, page_floor, all_stubs, sites, site_edges, tables_size, code_size, stubs_size}
 use Rattle.rz_machine.specs.WrittenFile.{Parts, IsAdded}
 use Rattle.rz_machine.specs.Rewritable.{has_node}
 use Rattle.rz_machine.specs.Fragments.{address_of}
-use Rattle.rz_machine.specs.PlainImage.{IsPlainImage}
+use Rattle.rz_elf.specs.PlainImage.{IsPlainImage}
 use Rattle.rz_machine.specs.Rewritten.{HasRoom, fragments_of, place_of}
 use Rattle.rz_machine.proofs.Emitted.{place_low, place_from, total_most}
 use Rattle.rz_machine.proofs.Parts.{page_up-least, lowest_low, Lie, parts_lie, length-filled, length-all_stubs, index_low}

@@ -1,10 +1,11 @@
 -- The code of a state at the start is that of the loads.
 use Rattle.std.proofs.Common.{◌≡◌, ℕ, ◌-◌, ◌⊎◌, inl, inr, ⊎_elim, Bool, true, false, ◌&&◌, if◌then◌else◌, nat_lt, [], ◌∷◌, ◌++◌, refl, ap, sym, ◌∙◌}
 use Rattle.std.specs.List.{AllByRecursion}
-use Rattle.rz_machine.specs.declared.memory.Cell.{Cell}
+use Rattle.rz_image.specs.Perm.{writes, executes}
+use Rattle.rz_image.specs.Memory.{Cell}
 use Rattle.rz_machine.specs.declared.sys.Input.{Input}
-use Rattle.rz_machine.specs.Memory.{Regions, no_cell, contains, cell_in, cell_at, code_of, NoSelfWritten}
-use Rattle.rz_machine.specs.Elf.{Image}
+use Rattle.rz_image.specs.Memory.{Regions, no_cell, contains, cell_in, cell_at, code_of, NoSelfWritten}
+use Rattle.rz_elf.specs.Elf.{Image}
 use Rattle.rz_machine.specs.Start.{start, heap_region, stack_region}
 use Rattle.rz_machine.proofs.CodeLaws.{HasCode}
 
@@ -24,7 +25,7 @@ cell_at-append (r ∷ rs) n a = go (contains r a) (cell_at-append rs n a)
 
 -- no region may be executed
 abbrev pub NoneExecuted : Regions → Type 0
-NoneExecuted m = AllByRecursion (λ r. r.perm.execute ≡ false) m
+NoneExecuted m = AllByRecursion (λ r. executes r.perm ≡ false) m
 
 and_false : (x y : Bool) → y ≡ false → (x && y) ≡ false
 and_false true y e = e
@@ -36,7 +37,7 @@ no_code [] a h = refl
 no_code (r ∷ rs) a h = go (contains r a) (no_code rs a h.1)
   where
     go : (b : Bool) → (cell_at rs a).execute ≡ false → (if b then cell_in r (a - r.base) else cell_at rs a).execute ≡ false
-    go true ih = and_false (nat_lt (a - r.base) r.opened) r.perm.execute h.0
+    go true ih = and_false (nat_lt (a - r.base) r.opened) (executes r.perm) h.0
     go false ih = ih
 
 -- regions that may not be executed add no code
@@ -60,7 +61,7 @@ start_code x input fixed = HasCode-append x.loads (heap_region x.first_break ∷
 
 -- none of the regions may be both written and executed
 abbrev pub NoneSelfWritten : Regions → Type 0
-NoneSelfWritten m = AllByRecursion (λ r. r.perm.write ≡ true → r.perm.execute ≡ false) m
+NoneSelfWritten m = AllByRecursion (λ r. writes r.perm ≡ true → executes r.perm ≡ false) m
 
 both_parts : (o w x : Bool) → (w ≡ true → x ≡ false) → (o && w) ≡ true → (o && x) ≡ false
 both_parts true w x f e = f e
@@ -75,7 +76,7 @@ cells_apart (r ∷ rs) a h e = go (contains r a) (cells_apart rs a h.1) e
     here b = if b then cell_in r (a - r.base) else cell_at rs a
 
     go : (b : Bool) → ((cell_at rs a).write ≡ true → (cell_at rs a).execute ≡ false) → (here b).write ≡ true → (here b).execute ≡ false
-    go true ih e = both_parts (nat_lt (a - r.base) r.opened) r.perm.write r.perm.execute h.0 e
+    go true ih e = both_parts (nat_lt (a - r.base) r.opened) (writes r.perm) (executes r.perm) h.0 e
     go false ih e = ih e
 
 pub NoSelfWritten-from_regions : (m : Regions) → NoneSelfWritten m → NoSelfWritten m

@@ -10,7 +10,7 @@ use Rattle.rz_machine.specs.declared.machine.Machine.{Machine}
 use Rattle.rz_machine.specs.declared.sys.Reply.{Reply}
 use Rattle.rz_machine.specs.declared.sys.Reply.TheVariants.{Full, AtMost, Error}
 use Rattle.rz_machine.specs.declared.sys.World.{World}
-use Rattle.rz_machine.specs.Memory.{Regions, put_byte, put_bytes, wrap, refused, is_writable}
+use Rattle.rz_image.specs.Memory.{Regions, put_byte, put_bytes, wrap, refused, is_writable}
 use Rattle.rz_machine.specs.Insn.{Decoder, Way, Onward, Jumps, Branches, Calls, Halts, way_of}
 use Rattle.rz_machine.specs.Effect.{Access, Effect, Outcome, Goes, Stops, Done, Went, Stopped, carry, carry_out, after_reads, stored, read_words, effect_by}
 use Rattle.rz_machine.specs.Answer.{Called, Call, Write, NoFile, Exit, Other, answer, answer_as, call_in, write_allowed, write_reply, next_reply}

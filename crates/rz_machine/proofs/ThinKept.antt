@@ -4,20 +4,20 @@ use Rattle.std.specs.List.{AllByRecursion}
 use Rattle.std.proofs.lemmas.Bool.{and_parts}
 use Rattle.rz_machine.specs.declared.sys.Input.{Input}
 use Rattle.rz_machine.specs.declared.trace.Record.{Record}
-use Rattle.rz_machine.specs.Memory.{no_cell, contains, cell_in, cell_at}
+use Rattle.rz_image.specs.Memory.{no_cell, contains, cell_in, cell_at}
 use Rattle.rz_machine.specs.First.{decode_first}
-use Rattle.rz_machine.specs.Elf.{Image, image_of, fault_of}
+use Rattle.rz_elf.specs.Elf.{Image, image_of, fault_of}
 use Rattle.rz_machine.specs.Added.{Added, added, layout_of, code_size, stubs_size}
 use Rattle.rz_machine.specs.WrittenFile.{Parts, IsAdded, new_image, written_file}
 use Rattle.rz_machine.specs.Start.{IsValid, start}
 use Rattle.rz_machine.specs.Thin.{IsThin, thin_base, thin_file}
 use Rattle.rz_machine.specs.Keeps.{KeepsRun}
 use Rattle.rz_machine.specs.Rewritable.{IsRewritable, IsAscending, has_node}
-use Rattle.rz_machine.specs.PlainImage.{IsPlainImage}
+use Rattle.rz_elf.specs.PlainImage.{IsPlainImage}
 use Rattle.rz_machine.specs.Rewritten.{HasRoom, ThinFilesKept, ThinFilesHaveRoom}
 use Rattle.rz_machine.proofs.PlainNodes.{stands}
 use Rattle.rz_machine.proofs.ThinLaws.{code_region, code_image, thin_image, thin_accepted}
-use Rattle.rz_machine.proofs.PlainAccepted.{accepted_plain}
+use Rattle.rz_elf.proofs.PlainAccepted.{accepted_plain}
 use Rattle.rz_machine.proofs.WrittenLaws.{PartsFit, written_image}
 use Rattle.rz_machine.proofs.AddedLaws.{sites-first, site_edges-first, thin_added, added-thin, parts_fit, inert_of}
 use Rattle.rz_machine.proofs.KeepsWritten.{keeps_written}

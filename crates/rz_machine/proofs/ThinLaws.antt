@@ -1,20 +1,20 @@
 -- A thin file is accepted, and what is loaded of it is its code.
 use Rattle.std.proofs.Common.{◌≡◌, ℕ, ◌+◌, ◌-◌, ◌≤◌, true, max, List, [], ◌∷◌, ◌++◌, length, drop, map, None, refl, sym, ap, ◌∙◌, arith}
 use Rattle.std.specs.List.{list_any}
-use Rattle.std.proofs.lemmas.List.{append-nil, length-append, length-replicate, drop_at, take_all}
+use Rattle.std.proofs.lemmas.List.{append-nil, length-append, drop_at, take_all}
 use Rattle.std.proofs.lemmas.Bool.Decides.{nat_tests}
 use Rattle.rz_num.specs.Page.{page_up}
-use Rattle.rz_machine.specs.declared.memory.Region.{Region}
-use Rattle.rz_machine.specs.Memory.{zeros}
-use Rattle.rz_machine.specs.Elf.{Segment, segments, is_load, file_header, FileHeader, has_entry, fault_of, load_bytes, load_region, Image, image_of}
-use Rattle.rz_machine.specs.WrittenFile.{read_execute, moved, kept_segments}
+use Rattle.rz_image.specs.declared.region.Region.{Region}
+use Rattle.rz_image.specs.Memory.{zeros}
+use Rattle.rz_elf.specs.Elf.{segments, is_load, file_header, has_entry, fault_of, load_bytes, load_region, Image, image_of}
+use Rattle.rz_elf.specs.declared.segment.Segment.{Segment}
+use Rattle.rz_elf.specs.declared.header.FileHeader.{FileHeader}
+use Rattle.rz_machine.specs.WrittenFile.{moved, kept_segments}
+use Rattle.rz_image.specs.Perm.{read_execute}
 use Rattle.rz_machine.specs.Thin.{thin_base, thin_segment, thin_file, IsThin}
+use Rattle.rz_image.proofs.Zeros.{length-zeros}
 use Rattle.rz_machine.proofs.HeaderLaws.{IsEncodable, segments_of-segment_bytes}
-use Rattle.rz_machine.proofs.Accepted.{IsGoodLoad, is_load-good, executable_header, HasGoodHeaders, loads-good, fault_of_none}
-
-pub length-zeros : (n : ℕ) → length (zeros n) ≡ n
-unfolding zeros
-length-zeros n = length-replicate n 0
+use Rattle.rz_elf.proofs.Accepted.{IsGoodLoad, is_load-good, executable_header, HasGoodHeaders, loads-good, fault_of_none}
 
 pub zeros-none : (n : ℕ) → zeros (n - n) ≡ []
 unfolding zeros
@@ -29,7 +29,7 @@ pub drop-thin_file : (code : List ℕ) → drop 4096 (thin_file code) ≡ code
 unfolding thin_file
 drop-thin_file code = drop_at (zeros 3976) code 3976 (length-zeros 3976)
 
-thin_file_header : (code : List ℕ) → file_header (thin_file code) ≡ executable_header thin_base 1
+pub thin_file_header : (code : List ℕ) → file_header (thin_file code) ≡ executable_header thin_base 1
 unfolding thin_file
 thin_file_header code = refl
 
@@ -86,7 +86,7 @@ thin_headers code h k =
       entered = thin_entered (length code) h;
     }
 
-thin_load : (n : ℕ) → 1 ≤ n → n ≤ 65536 → is_load (thin_segment n) ≡ true
+pub thin_load : (n : ℕ) → 1 ≤ n → n ≤ 65536 → is_load (thin_segment n) ≡ true
 thin_load n h k = is_load-good (4096 + n) (thin_segment n) (thin_load_good n (4096 + n) h k (omega arith))
 
 thin_moved : (code : List ℕ) → 1 ≤ length code → length code ≤ 65536 → kept_segments (thin_file code) ≡ moved (thin_segment (length code)) ∷ []

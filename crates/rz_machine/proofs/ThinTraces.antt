@@ -1,11 +1,12 @@
 -- What is traced of a thin file can be rewritten.
 use Rattle.std.proofs.Common.{◌≡◌, ℕ, ◌≤◌, List, [], sym, subst}
-use Rattle.rz_machine.specs.declared.elf.Elf.{Elf}
+use Rattle.rz_elf.specs.declared.elf.Elf.{Elf}
 use Rattle.rz_machine.specs.declared.trace.Record.{Record}
-use Rattle.rz_machine.specs.Memory.{NoSelfWritten}
-use Rattle.rz_machine.specs.Elf.{Image, image_of}
+use Rattle.rz_image.specs.Memory.{NoSelfWritten}
+use Rattle.rz_elf.specs.Elf.{Image, image_of}
 use Rattle.rz_machine.specs.Insn.{Decoder}
-use Rattle.rz_machine.specs.Loaded.{loaded, thin_elf}
+use Rattle.rz_elf.specs.Loaded.{loaded}
+use Rattle.rz_machine.specs.ThinElf.{thin_elf}
 use Rattle.rz_machine.specs.Recorded.{StandsIn}
 use Rattle.rz_machine.specs.Rewritable.{IsRewritable}
 use Rattle.rz_machine.proofs.StartCode.{NoSelfWritten-from_regions}

@@ -9,7 +9,7 @@ use Rattle.rz_machine.specs.declared.decode.Decoded.TheVariants as decoded
 use Rattle.rz_machine.specs.declared.machine.End.{End}
 use Rattle.rz_machine.specs.declared.machine.End.TheVariants as end
 use Rattle.rz_machine.specs.declared.machine.Machine.{Machine}
-use Rattle.rz_machine.specs.Memory.{Regions, wrap}
+use Rattle.rz_image.specs.Memory.{Regions, wrap}
 use Rattle.rz_machine.specs.Insn.{Decoder, Way, Onward, Jumps, Branches, Calls, Halts, way_of, kind_in, target_in, direct_by, direct}
 use Rattle.rz_machine.specs.Effect.{Done, Went, Stopped, plain_effect, plainly, effect_by, carry, read_words}
 use Rattle.rz_machine.specs.Answer.{Called}

@@ -6,7 +6,7 @@ use Rattle.rz_machine.specs.declared.items.Label.{Label}
 use Rattle.rz_machine.specs.declared.items.Label.TheVariants as label
 use Rattle.rz_machine.specs.declared.items.Item.{Item}
 use Rattle.rz_machine.specs.declared.items.Item.TheVariants as item
-use Rattle.rz_machine.specs.Memory.{Regions, IsInside}
+use Rattle.rz_image.specs.Memory.{Regions, IsInside}
 use Rattle.rz_machine.specs.Insn.{Decoder, Way, Onward, Jumps, Branches, Calls, Halts, way_of, target_in}
 use Rattle.rz_machine.specs.First.{mov_number, Spells, spelling_len, HasSpelling}
 use Rattle.rz_machine.specs.FirstLaws.{spelled_anywhere}

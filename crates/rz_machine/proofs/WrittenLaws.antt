@@ -5,14 +5,19 @@ use Rattle.std.specs.List.{AllByRecursion, list_any, starts_with}
 use Rattle.std.proofs.lemmas.List.{append-nil, append_assoc, length-append, drop_at, drop-drop, drop-append-le, take_at}
 use Rattle.std.proofs.lemmas.Bool.Decides.{nat_tests}
 use Rattle.rz_num.specs.Page.{page_up}
-use Rattle.rz_machine.specs.Memory.{zeros, whole_region}
+use Rattle.rz_image.specs.Memory.{zeros, whole_region}
 use Rattle.rz_machine.specs.Added.{scratch_size}
-use Rattle.rz_machine.specs.Elf.{Segment, segments, segments_of, file_header, FileHeader, field, has_entry, fault_of, perm_of, load_bytes, load_region, highest_end, Image, image_of}
-use Rattle.rz_machine.specs.WrittenFile.{Parts, segment_bytes, header_bytes, header_page, added_segment, added_segments, new_segments, written_file, added_regions, read_write, without_code, new_image}
+use Rattle.rz_elf.specs.Elf.{segments, segments_of, file_header, field, has_entry, fault_of, load_bytes, load_region, highest_end, Image, image_of}
+use Rattle.rz_elf.specs.declared.segment.Segment.{Segment}
+use Rattle.rz_elf.specs.declared.header.FileHeader.{FileHeader}
+use Rattle.rz_image.specs.Perm.{perm_of}
+use Rattle.rz_machine.specs.WrittenFile.{Parts, segment_bytes, header_bytes, header_page, added_segment, added_segments, new_segments, written_file, added_regions, without_code, new_image}
+use Rattle.rz_image.specs.Perm.{read_write}
 use Rattle.rz_machine.specs.Thin.{thin_base, thin_file}
 use Rattle.rz_machine.proofs.HeaderLaws.{IsEncodable, segments_of-segment_bytes, long}
-use Rattle.rz_machine.proofs.Accepted.{IsGoodLoad, AreGoodLoads, executable_header, HasGoodHeaders, loads-good, fault_of_none}
-use Rattle.rz_machine.proofs.ThinLaws.{length-zeros, zeros-none, length-thin_file, drop-thin_file, kept_segment, thin_kept, code_region, code_image, thin_image}
+use Rattle.rz_elf.proofs.Accepted.{IsGoodLoad, AreGoodLoads, executable_header, HasGoodHeaders, loads-good, fault_of_none}
+use Rattle.rz_machine.proofs.ThinLaws.{zeros-none, length-thin_file, drop-thin_file, kept_segment, thin_kept, code_region, code_image, thin_image}
+use Rattle.rz_image.proofs.Zeros.{length-zeros}
 
 -- parts of whole pages that end where a thin file's code begins, and an entry in the code part
 pub record PartsFit (p : Parts) (entry : ℕ) : Type 0 where

@@ -2,9 +2,9 @@
 use Rattle.std.specs.Prelude.{ℕ, ◌+◌, ◌-◌, ◌*◌, ◌%◌, if◌then◌else◌, ◌==◌, List, [], ◌∷◌, ◌++◌, length, filter, flat_map, min, replicate}
 use Rattle.byteorder.specs.Endian.{little_bytes}
 use Rattle.rz_machine.specs.declared.trace.Record.{Record}
-use Rattle.rz_machine.specs.Memory.{Regions, Range}
+use Rattle.rz_image.specs.Memory.{Regions, Range}
 use Rattle.rz_num.specs.Page.{page_up}
-use Rattle.rz_machine.specs.Elf.{Image}
+use Rattle.rz_elf.specs.Elf.{Image}
 use Rattle.rz_machine.specs.Insn.{Decoder}
 use Rattle.rz_machine.specs.Nodes.{is_site_at}
 

@@ -5,7 +5,7 @@ use Rattle.rz_machine.specs.declared.sys.Reply.{Reply}
 use Rattle.rz_machine.specs.declared.sys.Reply.TheVariants.{Full, AtMost, Error}
 use Rattle.rz_machine.specs.declared.sys.Event.{Event}
 use Rattle.rz_machine.specs.declared.sys.World.{World}
-use Rattle.rz_machine.specs.Memory.{Regions, Range, IsOutside, refused, is_readable, bytes_at}
+use Rattle.rz_image.specs.Memory.{Regions, Range, IsOutside, refused, is_readable, bytes_at}
 
 -- RAX, RCX, RDX, RSI, RDI and R11, by their numbers (Intel SDM, volume 2, table 3-1)
 abbrev pub rax : List ℕ → ℕ

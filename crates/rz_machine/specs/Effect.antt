@@ -18,7 +18,7 @@ use Rattle.rz_machine.specs.declared.insn.Insn.TheVariants as insn
 use Rattle.rz_machine.specs.declared.machine.End.{End}
 use Rattle.rz_machine.specs.declared.machine.End.TheVariants as end
 use Rattle.rz_machine.specs.Insn.{Way, Onward, Jumps, Branches, Calls, Halts}
-use Rattle.rz_machine.specs.Memory.{Regions, Range, IsClear, refused, is_readable, is_writable, bytes_at, put_bytes}
+use Rattle.rz_image.specs.Memory.{Regions, Range, IsClear, refused, is_readable, is_writable, bytes_at, put_bytes}
 
 -- what becomes of an instruction: registers, flags, the word to write, and where a transfer leads; or the end of the run
 pub data Outcome : Type 0 where

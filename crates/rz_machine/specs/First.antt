@@ -17,7 +17,7 @@ use Rattle.rz_machine.specs.declared.insn.Insn.{Insn}
 use Rattle.rz_machine.specs.declared.insn.Insn.TheVariants as insn
 use Rattle.rz_machine.specs.declared.decode.Decoded.{Decoded}
 use Rattle.rz_machine.specs.declared.decode.Decoded.TheVariants as decoded
-use Rattle.rz_machine.specs.Memory.{wrap}
+use Rattle.rz_image.specs.Memory.{wrap}
 
 -- the address that a displacement of a width from `next` names; it is signed
 abbrev pub displaced : Width → ℕ → ℕ → ℕ

@@ -9,7 +9,7 @@ use Rattle.rz_machine.specs.declared.items.Label.TheVariants as label
 use Rattle.rz_machine.specs.declared.items.Item.{Item}
 use Rattle.rz_machine.specs.declared.items.Item.TheVariants as item
 use Rattle.rz_machine.specs.declared.items.Fragment.{Fragment}
-use Rattle.rz_machine.specs.Memory.{Regions, wrap}
+use Rattle.rz_image.specs.Memory.{Regions, wrap}
 use Rattle.rz_machine.specs.Insn.{Decoder, Way, Onward, Jumps, Branches, Calls, Halts, way_of}
 use Rattle.rz_machine.specs.First.{mov_number, spelling, spelling_len}
 use Rattle.rz_machine.specs.Keeps.{Edges, has_edge}

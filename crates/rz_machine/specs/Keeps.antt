@@ -6,9 +6,9 @@ use Rattle.rz_machine.specs.declared.machine.End.TheVariants as end
 use Rattle.rz_machine.specs.declared.machine.Machine.{Machine}
 use Rattle.rz_machine.specs.declared.sys.Input.{Input}
 use Rattle.rz_machine.specs.declared.trace.Record.{Record}
-use Rattle.rz_machine.specs.Memory.{Range, IsInside, Alike}
+use Rattle.rz_image.specs.Memory.{Range, IsInside, Alike}
 use Rattle.rz_machine.specs.Insn.{Decoder}
-use Rattle.rz_machine.specs.Elf.{image_of}
+use Rattle.rz_elf.specs.Elf.{image_of}
 use Rattle.rz_machine.specs.State.{step, after}
 use Rattle.rz_machine.specs.Start.{IsValid, start}
 use Rattle.rz_machine.specs.Touches.{RunClear}

@@ -1,5 +1,3 @@
-pub mod Memory
-pub mod Elf
 pub mod Insn
 pub mod Effect
 pub mod Answer
@@ -17,14 +15,14 @@ pub mod Greeting
 pub mod Rewritable
 pub mod Fragments
 pub mod Pace
-pub mod PlainImage
 pub mod LeftCode
 pub mod Traced
 pub mod TableLaws
 pub mod FirstLaws
 pub mod Left
 pub mod Ran
-pub mod Loaded
+pub mod ThinElf
+pub mod ThinFault
 pub mod ThinPage
 pub mod Rewritten
 pub mod Recorded

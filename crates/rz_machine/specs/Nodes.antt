@@ -3,7 +3,7 @@ use Rattle.std.specs.Prelude.{◌≡◌, ℕ, ◌+◌, Bool, false, List, []}
 use Rattle.rz_machine.specs.declared.decode.Decoded.{Decoded}
 use Rattle.rz_machine.specs.declared.decode.Decoded.TheVariants as decoded
 use Rattle.rz_machine.specs.declared.insn.Insn.{Insn}
-use Rattle.rz_machine.specs.Memory.{Regions, fetch, wrap}
+use Rattle.rz_image.specs.Memory.{Regions, fetch, wrap}
 use Rattle.rz_machine.specs.Insn.{Decoder, kind_of, is_site, direct}
 
 -- what the executable bytes at an address spell

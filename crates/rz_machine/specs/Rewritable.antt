@@ -2,7 +2,7 @@
 use Rattle.std.specs.Prelude.{◌≡◌, ℕ, ◌<◌, Bool, true, false, ◌==◌, List, [], ◌∷◌}
 use Rattle.std.specs.List.{list_any, AllByRecursion}
 use Rattle.rz_machine.specs.declared.trace.Record.{Record}
-use Rattle.rz_machine.specs.Elf.{Image}
+use Rattle.rz_elf.specs.Elf.{Image}
 use Rattle.rz_machine.specs.Insn.{Decoder}
 use Rattle.rz_machine.specs.Nodes.{IsNode, is_site_at, direct_at}
 use Rattle.rz_machine.specs.Keeps.{has_edge}

@@ -5,8 +5,8 @@ use Rattle.rz_machine.specs.declared.items.Fragment.{Fragment}
 use Rattle.rz_machine.specs.declared.items.Label.{Label}
 use Rattle.rz_machine.specs.declared.sys.Input.{Input}
 use Rattle.rz_machine.specs.declared.trace.Record.{Record}
-use Rattle.rz_machine.specs.Memory.{IsInside}
-use Rattle.rz_machine.specs.Elf.{Image, image_of}
+use Rattle.rz_image.specs.Memory.{IsInside}
+use Rattle.rz_elf.specs.Elf.{Image, image_of}
 use Rattle.rz_machine.specs.Insn.{Decoder}
 use Rattle.rz_machine.specs.Added.{sites, site_edges, scratch_size, tables_size, code_size, stubs_size, lowest, page_floor, added, layout_of}
 use Rattle.rz_machine.specs.WrittenFile.{Parts, IsAdded, new_image, written_file, Inert}
@@ -14,7 +14,7 @@ use Rattle.rz_machine.specs.Start.{start}
 use Rattle.rz_machine.specs.Thin.{IsThin}
 use Rattle.rz_machine.specs.Keeps.{KeepsRun, Keeps}
 use Rattle.rz_machine.specs.Pace.{Paced}
-use Rattle.rz_machine.specs.PlainImage.{IsPlainImage}
+use Rattle.rz_elf.specs.PlainImage.{IsPlainImage}
 use Rattle.rz_machine.specs.Rewritable.{IsRewritable, has_node}
 use Rattle.rz_machine.specs.Fragments.{fragments, place_in, address_of, fragments_bytes}
 

@@ -1,17 +1,17 @@
 -- The opening state of an accepted file on a valid input
 -- (after the System V ABI for x86-64, section 3.4.1, "Initial Stack and Register State", without environment or auxiliary entries).
-use Rattle.std.specs.Prelude.{◌≡◌, ℕ, ◌+◌, ◌-◌, ◌*◌, ◌%◌, ◌^◌, ◌<◌, ◌≤◌, true, false, List, [], ◌∷◌, ◌++◌, length, set, replicate, flat_map, None}
+use Rattle.std.specs.Prelude.{◌≡◌, ℕ, ◌+◌, ◌-◌, ◌*◌, ◌%◌, ◌^◌, ◌<◌, ◌≤◌, false, List, [], ◌∷◌, ◌++◌, length, set, replicate, flat_map, None}
 use Rattle.std.specs.List.{AllByRecursion}
 use Rattle.byteorder.specs.Endian.{little_bytes}
 use Rattle.rz_flags.specs.declared.Flags.{Flags}
 use Rattle.rz_machine.specs.declared.machine.Machine.{Machine}
-use Rattle.rz_machine.specs.declared.memory.Perm.{Perm}
-use Rattle.rz_machine.specs.declared.memory.Region.{Region}
+use Rattle.rz_image.specs.Perm.{read_write}
+use Rattle.rz_image.specs.declared.region.Region.{Region}
 use Rattle.rz_machine.specs.declared.sys.Input.{Input}
 use Rattle.rz_machine.specs.declared.sys.Reply.{Reply}
 use Rattle.rz_machine.specs.declared.sys.Reply.TheVariants.{Full, AtMost, Error}
-use Rattle.rz_machine.specs.Memory.{zeros}
-use Rattle.rz_machine.specs.Elf.{Image}
+use Rattle.rz_image.specs.Memory.{zeros}
+use Rattle.rz_elf.specs.Elf.{Image}
 
 -- the argument strings, each with its zero byte
 abbrev pub strings : List (List ℕ) → List ℕ
@@ -61,9 +61,6 @@ unfoldable pub stack_bytes : List (List ℕ) → List ℕ
 stack_bytes args =
     let words = flat_map (little_bytes 8) (stack_words args) in
     zeros (first_rsp args - stack_base) ++ (words ++ (zeros (strings_at args - (first_rsp args + length words)) ++ strings args))
-
-abbrev pub read_write : Perm
-read_write = record { read = true; write = true; execute = false }
 
 abbrev pub stack_region : Input → Region
 stack_region input = record { base = stack_base; bytes = stack_bytes input.args; opened = 2 ^ 20; perm = read_write }

@@ -8,7 +8,7 @@ use Rattle.rz_machine.specs.declared.decode.Decoded.TheVariants as decoded
 use Rattle.rz_machine.specs.declared.machine.End.{End}
 use Rattle.rz_machine.specs.declared.machine.End.TheVariants as end
 use Rattle.rz_machine.specs.declared.machine.Machine.{Machine}
-use Rattle.rz_machine.specs.Memory.{fetch, wrap}
+use Rattle.rz_image.specs.Memory.{fetch, wrap}
 use Rattle.rz_machine.specs.Insn.{Decoder, Way, Calls, way_of}
 use Rattle.rz_machine.specs.Effect.{effect_by, carry, Done, Went, Stopped}
 use Rattle.rz_machine.specs.Answer.{Called, answer, world_after}

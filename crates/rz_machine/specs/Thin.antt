@@ -1,8 +1,8 @@
 -- The thin files: one load of code at 0x401000, with every header field fixed.
 use Rattle.std.specs.Prelude.{◌≡◌, ℕ, ◌≤◌, List, ◌∷◌, ◌++◌, length}
 use Rattle.byteorder.specs.Endian.{little_bytes}
-use Rattle.rz_machine.specs.Memory.{zeros}
-use Rattle.rz_machine.specs.Elf.{Segment}
+use Rattle.rz_image.specs.Memory.{zeros}
+use Rattle.rz_elf.specs.declared.segment.Segment.{Segment}
 use Rattle.rz_machine.specs.WrittenFile.{segment_bytes}
 
 -- where the code of a thin file stands, which is its entry too

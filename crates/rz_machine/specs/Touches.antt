@@ -4,7 +4,7 @@ use Rattle.rz_machine.specs.declared.insn.Insn.{Insn}
 use Rattle.rz_machine.specs.declared.decode.Decoded.{Decoded}
 use Rattle.rz_machine.specs.declared.decode.Decoded.TheVariants as decoded
 use Rattle.rz_machine.specs.declared.machine.Machine.{Machine}
-use Rattle.rz_machine.specs.Memory.{Range}
+use Rattle.rz_image.specs.Memory.{Range}
 use Rattle.rz_machine.specs.Insn.{Decoder, Way, Calls, way_of}
 use Rattle.rz_machine.specs.Effect.{effect_by, EffectClear}
 use Rattle.rz_machine.specs.Answer.{call_in, cut_count, rsi, rdx, CallClear}

@@ -1,13 +1,14 @@
 -- The written file, byte for byte: a fresh header page, the original, and the added parts.
-use Rattle.std.specs.Prelude.{◌≡◌, ℕ, ◌+◌, ◌-◌, ◌*◌, ◌%◌, ◌<◌, ◌≤◌, ◌||◌, if◌then◌else◌, List, [], ◌∷◌, ◌++◌, length, map, filter, flat_map, min, false, true, None}
+use Rattle.std.specs.Prelude.{◌≡◌, ℕ, ◌+◌, ◌-◌, ◌*◌, ◌%◌, ◌<◌, ◌≤◌, ◌||◌, if◌then◌else◌, List, [], ◌∷◌, ◌++◌, length, map, filter, flat_map, min, None}
 use Rattle.byteorder.specs.Endian.{little_bytes}
 use Rattle.rz_num.specs.Page.{page_up}
-use Rattle.rz_machine.specs.declared.memory.Perm.{Perm}
-use Rattle.rz_machine.specs.declared.memory.Region.{Region}
+use Rattle.rz_image.specs.Perm.{read_only, read_execute, read_write}
+use Rattle.rz_image.specs.declared.region.Region.{Region}
 use Rattle.rz_machine.specs.declared.trace.Record.{Record}
 pub use Rattle.rz_machine.specs.declared.elf_write.Parts.{Parts}
-use Rattle.rz_machine.specs.Memory.{Regions, whole_region, zeros}
-use Rattle.rz_machine.specs.Elf.{Segment, segments, is_load, is_stack, fault_of, Image, image_of}
+use Rattle.rz_image.specs.Memory.{Regions, whole_region, zeros}
+use Rattle.rz_elf.specs.Elf.{segments, is_load, is_stack, fault_of, Image, image_of}
+use Rattle.rz_elf.specs.declared.segment.Segment.{Segment}
 use Rattle.rz_machine.specs.Insn.{Decoder}
 use Rattle.rz_machine.specs.Added.{Added, added, scratch_size, all_stubs, filled}
 
@@ -89,15 +90,6 @@ written_file x p entry =
     ++ (x ++ (zeros (page_up (length x) - length x) ++ (p.tables ++ (p.code ++ p.stubs))))
 
 -- the regions of the added loads
-abbrev pub read_only : Perm
-read_only = record { read = true; write = false; execute = false }
-
-abbrev pub read_execute : Perm
-read_execute = record { read = true; write = false; execute = true }
-
-abbrev pub read_write : Perm
-read_write = record { read = true; write = true; execute = false }
-
 abbrev pub added_regions : Parts → Regions
 added_regions p =
     whole_region p.base (zeros scratch_size) read_write
@@ -108,7 +100,7 @@ added_regions p =
 
 -- a region without the permission to execute
 abbrev pub without_code : Region → Region
-without_code r = record r { perm = record r.perm { execute = false } }
+without_code r = record r { perm = record { 0 = without_execute r.perm.0 } }
 
 -- the original's loads without the permission to execute, and the four added loads
 abbrev pub new_image : Image → Parts → ℕ → Image

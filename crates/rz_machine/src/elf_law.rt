@@ -3,12 +3,13 @@
 ghost use Rattle.std.specs.Prelude.{◌≡◌, ◌≤◌, ◌+◌, ℕ, List, [], ◌∷◌, length, None};
 ghost use Rattle.rz_num.specs.Page.{page_up};
 ghost use Rattle.rz_machine.specs.declared.trace.Record.{Record};
-ghost use Rattle.rz_machine.specs.Memory.{whole_region};
-ghost use Rattle.rz_machine.specs.Elf.{fault_of, image_of};
+ghost use Rattle.rz_image.specs.Memory.{whole_region};
+ghost use Rattle.rz_elf.specs.Elf.{fault_of, image_of};
 ghost use Rattle.rz_machine.specs.First.{decode_first};
 ghost use Rattle.rz_machine.specs.Added.{added};
 ghost use Rattle.rz_machine.specs.Greeting.{greeting, greeting_record};
-ghost use Rattle.rz_machine.specs.WrittenFile.{Parts, IsAdded, read_execute, written_file, Inert};
+ghost use Rattle.rz_machine.specs.WrittenFile.{Parts, IsAdded, written_file, Inert};
+ghost use Rattle.rz_image.specs.Perm.{read_execute};
 ghost use Rattle.rz_machine.specs.Thin.{IsThin, thin_base, thin_file};
 
 /// A thin file is accepted, and its code alone is loaded of it.

@@ -3,11 +3,11 @@
 
 ghost use Rattle.std.specs.Prelude.{◌≡◌, ◌≤◌, ◌<◌, ◌+◌, ◌^◌, ◌++◌, length, flat_map, OnOk, IfOk};
 ghost use Rattle.byteorder.specs.Endian.{little_bytes};
-ghost use Rattle.rz_machine.specs.Memory.{zeros};
+ghost use Rattle.rz_image.specs.Memory.{zeros};
 ghost use Rattle.rz_machine.specs.WrittenFile.{segment_bytes, header_bytes, header_page, added_segment, added_segments, without_execute, moved, new_segments, written_file};
 ghost use Rattle.rz_machine.specs.Thin.{IsThin, thin_base, thin_segment};
 
-use crate::segment::Segment;
+use rz_elf::segment::Segment;
 use rz_num::{Bytes, OutOfMemory, page_up};
 use std::alloc::Global;
 

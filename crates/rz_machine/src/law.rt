@@ -1,9 +1,5 @@
 //! Laws over the definitions alone.
 
-ghost use Rattle.std.specs.Prelude.{◌≡◌, ◌<◌, ℕ, List, None};
-ghost use Rattle.std.specs.List.{AllByRecursion};
-ghost use Rattle.rz_machine.specs.Elf.{fault_of, image_of};
-ghost use Rattle.rz_machine.specs.PlainImage.{IsPlainImage};
 ghost use Rattle.rz_machine.specs.First.{decode_first};
 ghost use Rattle.rz_machine.specs.Rewritten.{RewrittenKeeps, RewrittenPaced, FragmentsFit, PlacesInCode, ThinFilesHaveRoom, ThinFilesKept};
 
@@ -25,9 +21,4 @@ pub fn fragments_fit()
 pub fn thin_files_are_kept()
     ensures room { ThinFilesHaveRoom decode_first }
     ensures kept { ThinFilesKept decode_first }
-{}
-
-/// What is loaded of an accepted file is plain: no region is both written and executed, and all lie at low addresses.
-pub fn accepted_files_are_plain()
-    ensures { (x : List ℕ) → AllByRecursion (λ b. b < 256) x → fault_of x ≡ None → IsPlainImage (image_of x) }
 {}

@@ -3,7 +3,6 @@
 
 pub mod call;
 pub mod decode;
-pub mod elf;
 pub mod elf_law;
 pub mod elf_write;
 pub mod encode;
@@ -13,8 +12,6 @@ pub mod items;
 pub mod kinds;
 pub mod law;
 pub mod machine;
-pub mod memory;
-pub mod segment;
 pub mod start;
 pub mod sys;
 pub mod table;

@@ -7,11 +7,11 @@ ghost use Rattle.rz_machine.specs.TableLaws.{AreBytes};
 use crate::call::syscall;
 use crate::decode::Decoded;
 use crate::insn::{Insn, Operand, Place, Reg};
-use crate::memory::Memory;
 use crate::sys::World;
 use crate::table::InsnTable;
 use rz_alu::arith;
 use rz_flags::{ArithOp, Cond, Flags, holds, to_word};
+use rz_image::memory::Memory;
 use rz_num::{OutOfMemory, Width, mask};
 use std::alloc::Global;
 

@@ -1,15 +1,18 @@
 //! The opening state of a file on an input.
 
 ghost use Rattle.std.specs.Prelude.{◌≡◌, ◌≤◌, ◌<◌, ◌+◌, ◌-◌, ◌++◌, length, map, IfOk};
-ghost use Rattle.rz_machine.specs.Memory.{zeros};
+ghost use Rattle.std.specs.List.{AllByRecursion};
+ghost use Rattle.rz_image.specs.Memory.{Ascend, zeros};
 ghost use Rattle.rz_machine.specs.Start.{IsEmptyInput, empty_input, start as start_of, first_regs, heap_region, stack_region};
-ghost use Rattle.rz_machine.specs.Loaded.{IsLoad, IsLoadable, loaded, loaded_region};
+ghost use Rattle.rz_elf.specs.Loaded.{IsLoad, loaded, loaded_region};
 
-use crate::elf::{Elf, Load};
 use crate::machine::{Cpu, Machine};
-use crate::memory::{Memory, Perm, Region};
 use crate::sys::{Events, Input, Replies, World};
+use rz_elf::elf::{Elf, Load};
 use rz_flags::Flags;
+use rz_image::memory::Memory;
+use rz_image::perm::Perm;
+use rz_image::region::Region;
 use rz_num::{Bytes, OutOfMemory};
 use std::alloc::Global;
 
@@ -25,11 +28,8 @@ const RSP: usize = 4;
 
 const FIRST_RSP: u64 = 0x7fff_ffff_efd0;
 
-const READ_WRITE: Perm = Perm {
-    read: true,
-    write: true,
-    execute: false,
-};
+// The flags of heap and stack: PF_R and PF_W.
+const READ_WRITE: u32 = 6;
 
 const NO_FLAGS: Flags = Flags {
     cf: false,
@@ -44,8 +44,7 @@ const NO_FLAGS: Flags = Flags {
 /// The state in which a run of a file begins: its loads, a closed heap and a stack, RIP at the entry.
 /// The input has no arguments and no replies yet. It refuses for want of memory alone.
 pub fn start(alloc: Global, elf: &Elf, input: &Input) -> Result<Machine, OutOfMemory>
-    requires loadable { IsLoadable elf.now }
-    requires input { IsEmptyInput input.now }
+    requires { IsEmptyInput input.now }
     ensures { IfOk result (λ machine. machine ≡ start_of (loaded elf.now) input.now) }
 {
     let mut regions = load_regions(alloc, elf)?;
@@ -78,14 +77,22 @@ fn first_registers() -> [u64; 16]
     regs
 }
 
-/// What is loaded of a file: a region for each load. It refuses for want of memory alone.
+/// What is loaded of a file: a region for each load, in ascending order. It refuses for want of memory alone.
 pub fn load_regions(alloc: Global, elf: &Elf) -> Result<Vec<Region>, OutOfMemory>
-    requires { IsLoadable elf.now }
-    ensures { IfOk result (λ regions. regions.items ≡ map (loaded_region elf.now.bytes) elf.now.loads) }
+    ensures regions { IfOk result (λ regions. regions.items ≡ (loaded elf.now).loads) }
+    ensures ascend { IfOk result (λ regions. Ascend regions.items) }
+{
+    regions_of(alloc, elf.bytes.as_slice(), elf.loads.as_slice())
+}
+
+// The regions of loads of a file.
+fn regions_of(alloc: Global, file: &[u8], loads: &[Load]) -> Result<Vec<Region>, OutOfMemory>
+    requires { AllByRecursion (IsLoad (length file.now)) loads.now }
+    ensures { IfOk result (λ regions. regions.items ≡ map (loaded_region file.now) loads.now) }
 {
     let mut regions = Vec::new(alloc);
-    for load in elf.loads.as_slice() {
-        regions.push(load_region(alloc, elf.bytes.as_slice(), load)?)?;
+    for load in loads {
+        regions.push(load_region(alloc, file, load)?)?;
     }
     Ok(regions)
 }
@@ -123,7 +130,7 @@ fn heap(alloc: Global, at: u64) -> Result<Region, OutOfMemory>
         base: at,
         bytes: filled(alloc, &[], HEAP_SIZE)?,
         opened: 0,
-        perm: READ_WRITE,
+        perm: Perm::of_flags(READ_WRITE),
     })
 }
 
@@ -135,6 +142,6 @@ fn stack(alloc: Global) -> Result<Region, OutOfMemory>
         base: STACK_AT,
         bytes: filled(alloc, &[], STACK_SIZE)?,
         opened: STACK_SIZE,
-        perm: READ_WRITE,
+        perm: Perm::of_flags(READ_WRITE),
     })
 }

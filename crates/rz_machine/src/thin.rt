@@ -2,14 +2,17 @@
 
 ghost use Rattle.std.specs.Prelude.{◌≡◌, ◌==◌, [], ◌∷◌, ◌↔◌, ◌<◌, ◌≤◌, ◌⊎◌, length, IsTrue, IfOk, IfErr, IsErrOf};
 ghost use Rattle.std.specs.List.{list_all};
-ghost use Rattle.rz_machine.specs.Elf.{fault_of, image_of};
+ghost use Rattle.rz_elf.specs.Elf.{fault_of, image_of};
 ghost use Rattle.rz_machine.specs.WrittenFile.{segment_bytes};
 ghost use Rattle.rz_machine.specs.Thin.{IsThin, thin_header, thin_segment};
-ghost use Rattle.rz_machine.specs.Loaded.{IsLoadable, loaded, thin_elf, thin_load};
+ghost use Rattle.rz_elf.specs.Loaded.{loaded};
+ghost use Rattle.rz_machine.specs.ThinElf.{thin_elf};
+ghost use Rattle.rz_machine.specs.ThinFault.{IsThinCause};
 ghost use Rattle.rz_machine.specs.ThinPage.{has_thin_page};
 
-use crate::elf::{Elf, ElfError, ElfFault, Load, Loads};
-use crate::memory::Perm;
+use rz_elf::elf::Elf;
+use rz_elf::fault::{ElfError, ElfFault};
+use rz_elf::read::read_elf;
 use rz_num::{Bytes, OutOfMemory, page_up, put_u16, put_u32, put_u64};
 use std::alloc::Global;
 
@@ -25,49 +28,20 @@ const MOST_CODE: usize = 65_536;
 /// A file with its magic number, 64 bits, the low byte first, of version 1.
 const IDENTITY: [u8; 7] = [0x7f, b'E', b'L', b'F', 2, 1, 1];
 
-/// Reads a thin file. The fault is `Unbuilt`, exactly where the file isn't thin.
+/// Reads a file that has to be thin. It is refused with its first fault, or with `Unbuilt` exactly where it is accepted
+/// and isn't thin. Or there is no memory.
 pub fn read_thin(alloc: Global, bytes: Bytes) -> Result<Elf, ElfError>
     ensures thin { IfOk result (λ elf. IsThin bytes) }
     ensures elf { IfOk result (λ elf. elf ≡ thin_elf bytes) }
-    ensures loadable { IfOk result IsLoadable }
     ensures accepted { IfOk result (λ elf. fault_of bytes ≡ None) }
     ensures image { IfOk result (λ elf. loaded elf ≡ image_of bytes) }
-    ensures unbuilt { IsErrOf result (ElfError.Fault ElfFault.Unbuilt) ↔ (¬ IsThin bytes) }
-    ensures only { IfErr result (λ e. (e ≡ ElfError.Fault ElfFault.Unbuilt) ⊎ (e ≡ ElfError.OutOfMemory)) }
+    ensures fault { IfErr result (IsThinCause bytes) }
 {
-    let file = bytes.as_slice();
-    if !is_thin(file) {
+    let elf = read_elf(alloc, bytes)?;
+    if !is_thin(elf.bytes.as_slice()) {
         return Err(ElfError::Fault(ElfFault::Unbuilt));
     }
-    let size = (file.len() - CODE_AT) as u64;
-    let loads = thin_loads(alloc, size)?;
-    Ok(Elf {
-        bytes,
-        loads,
-        entry: BASE,
-        first_break: page_up(BASE + size),
-    })
-}
-
-// The load of a thin file whose code has `size` bytes.
-fn thin_loads(alloc: Global, size: u64) -> Result<Loads, OutOfMemory>
-    ensures { IfOk result (λ loads. loads ≡ thin_load size ∷ []) }
-{
-    let mut items = Vec::new(alloc);
-    items.push(Load {
-        at: BASE,
-        size,
-        file_at: CODE_AT as u64,
-        file_size: size,
-        align: 4096,
-        perm: Perm {
-            read: true,
-            write: false,
-            execute: true,
-        },
-        index: 0,
-    })?;
-    Ok(Loads::from_vec(items))
+    Ok(elf)
 }
 
 /// Whether a file is thin.

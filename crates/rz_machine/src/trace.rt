@@ -8,15 +8,15 @@ ghost use Rattle.rz_machine.specs.LeftCode.{left_at, StaysInCode};
 ghost use Rattle.rz_machine.specs.Traced.{with_run, IsRefused};
 ghost use Rattle.rz_machine.specs.Recorded.{StandsIn, IsUncut};
 ghost use Rattle.rz_machine.specs.Rewritable.{IsRewritable};
-ghost use Rattle.rz_machine.specs.Memory.{NoSelfWritten};
+ghost use Rattle.rz_image.specs.Memory.{NoSelfWritten};
 ghost use Rattle.rz_machine.specs.Start.{start as start_of, IsEmptyInput};
-ghost use Rattle.rz_machine.specs.Loaded.{loaded, IsLoadable};
+ghost use Rattle.rz_elf.specs.Loaded.{loaded};
 
-use crate::elf::Elf;
 use crate::machine::{End, Machine};
 use crate::start::start;
 use crate::sys::Input;
 use crate::table::InsnTable;
+use rz_elf::elf::Elf;
 use rz_num::{OutOfMemory, Pairs, Words};
 use std::alloc::Global;
 use std::collections::BTreeSet;
@@ -205,7 +205,6 @@ pub fn trace<T: InsnTable>(
     limit: u64,
     rec: &mut Record,
 ) -> Result<(), TraceRefusal>
-    requires loadable { IsLoadable elf.now }
     requires input { IsEmptyInput input.now }
     ensures added { OnOk result (rec.new ≡ with_run T.decoder limit (start_of (loaded elf.now) input.now) rec.old) }
     ensures stays { OnOk result (StaysInCode T.decoder limit (start_of (loaded elf.now) input.now)) }

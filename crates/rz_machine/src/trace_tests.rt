@@ -1,13 +1,11 @@
 // Traces of worked programs, and the calls that take memory where there is enough.
 
-ghost use Rattle.std.specs.Prelude.{IfOk};
-ghost use Rattle.rz_machine.specs.Loaded.{IsLoadable};
-
-use crate::elf::{Elf, ElfError};
 use crate::first::First;
 use crate::sys::Input;
 use crate::thin::read_thin;
 use crate::trace::{AddrSet, EdgeSet, Record, TraceRefusal, trace};
+use rz_elf::elf::Elf;
+use rz_elf::fault::ElfError;
 use rz_num::{Bytes, put_u64};
 use std::alloc::Global;
 use std::test::Fail;
@@ -22,9 +20,7 @@ const HEADERS: [u8; 120] = [
 ];
 
 // The thin file of a code.
-fn program(alloc: Global, code: &[u8]) -> Result<Elf, ElfError>
-    ensures { IfOk result IsLoadable }
-{
+fn program(alloc: Global, code: &[u8]) -> Result<Elf, ElfError> {
     let mut headers = HEADERS;
     put_u64(&mut headers, 96, code.len() as u64);
     put_u64(&mut headers, 104, code.len() as u64);

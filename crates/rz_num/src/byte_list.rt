@@ -1,6 +1,6 @@
 // Lists of bytes.
 
-ghost use Rattle.std.specs.Prelude.{◌≡◌, ℕ, List, [], ◌∷◌, ◌++◌, ◌<◌, OnOk, OnErr, IfOk, slice_index};
+ghost use Rattle.std.specs.Prelude.{◌≡◌, ℕ, List, [], ◌∷◌, ◌++◌, ◌+◌, ◌-◌, ◌<◌, ◌≤◌, OnOk, OnErr, IfOk, length, take, drop, replicate, slice_index};
 
 use crate::OutOfMemory;
 use std::alloc::Global;
@@ -68,6 +68,23 @@ impl Bytes {
     {
         self.items.extend_from_slice(bytes)?;
         Ok(())
+    }
+
+    /// Writes bytes over those from place `at` on. All other bytes stay. It takes no memory.
+    pub fn overwrite(&mut self, at: usize, bytes: &[u8])
+        requires { at + length bytes.now ≤ length self.old }
+        ensures { self.new ≡ take at self.old ++ (bytes.now ++ drop (at + length bytes.now) self.old) }
+    {
+        self.items[at..at + bytes.len()].copy_from_slice(bytes);
+    }
+
+    /// Makes the bytes from place `from` on zero, up to place `to`. All other bytes stay. It takes no memory.
+    pub fn clear(&mut self, from: usize, to: usize)
+        requires order { from ≤ to }
+        requires inside { to ≤ length self.old }
+        ensures { self.new ≡ take from self.old ++ (replicate (to - from) 0 ++ drop to self.old) }
+    {
+        self.items[from..to].fill(0);
     }
 
     /// The bytes as a slice.

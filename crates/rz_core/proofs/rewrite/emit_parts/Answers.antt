@@ -1,5 +1,5 @@
 use Rattle.std.proofs.Common.{◌≡◌, ◌∙◌, ap, length, arith}
-use Rattle.rz_machine.specs.Memory.{zeros}
+use Rattle.rz_image.specs.Memory.{zeros}
 use Rattle.rz_machine.specs.Fragments.{total_len}
 use Rattle.rz_machine.proofs.Emitted.{length-fragments_bytes}
 use Rattle.rz_machine.proofs.Parts.{length-all_stubs}

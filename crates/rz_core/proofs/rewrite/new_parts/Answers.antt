@@ -1,5 +1,7 @@
-use Rattle.std.proofs.Common.{◌∙◌, arith}
-use Rattle.rz_machine.specs.Loaded.{loaded}
+use Rattle.std.proofs.Common.{◌∙◌, ap, arith}
+use Rattle.rz_elf.specs.Loaded.{ElfFile, loaded}
+use Rattle.rz_machine.specs.declared.items.Label.TheVariants as label
+use Rattle.rz_core.specs.Places.{address_in}
 use Rattle.rz_core.proofs.NewPartsLaws.{fits, AreEmitted, parts_are, begins_is, are_rewritten}
 use Rattle.rz_core.proofs.rewrite.new_parts.Goals as goal
 
@@ -46,7 +48,7 @@ returns c =
       tables = c.in_ok-parts.ensures.tables;
       code = c.in_ok-parts.ensures.code;
       stubs = c.in_ok-parts.ensures.stubs;
-      begins = c.address-entry.ensures.value;
+      begins = c.address-entry.ensures.value ∙ ap (λ (e : ElfFile). address_in p (label.Place e.entry)) c.elf.view_is;
     } in
     record {
       parts = parts_are x kept q.plain q.rewritable q.room fs nodes range p parts entry are;

@@ -1,7 +1,7 @@
 use Rattle.std.proofs.Common.{refl}
 use Rattle.std.specs.Int.Count.{ones, ones_in}
-use Rattle.rz_machine.specs.Memory.{zeros, cell_at, fetch}
-use Rattle.rz_machine.specs.Elf.{fault_of, image_of}
+use Rattle.rz_image.specs.Memory.{zeros, cell_at, fetch}
+use Rattle.rz_elf.specs.Elf.{fault_of, image_of}
 use Rattle.rz_machine.specs.First.{decode_first}
 use Rattle.rz_machine.specs.Thin.{thin_file}
 use Rattle.rz_machine.proofs.elf_law.greeting_is_accepted.Goals as goal

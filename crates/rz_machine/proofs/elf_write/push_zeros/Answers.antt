@@ -1,7 +1,7 @@
 use Rattle.std.proofs.Common.{◌≡◌, ℕ, ◌+◌, ◌-◌, ◌++◌, List, length, take, replicate, ap, ap₂, arith, rules}
 use Rattle.std.specs.Prelude.{vec_len}
 use Rattle.std.proofs.lemmas.List.{take_all}
-use Rattle.rz_machine.specs.Memory.{zeros}
+use Rattle.rz_image.specs.Memory.{zeros}
 use Rattle.rz_machine.proofs.elf_write.push_zeros.Goals as goal
 
 filled_up : (old : List ℕ) (len was n : ℕ) → len ≡ length old → was ≡ length old → take (len + n) old ++ replicate (len + n - was) 0 ≡ old ++ zeros n

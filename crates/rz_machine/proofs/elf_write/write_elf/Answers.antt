@@ -1,7 +1,7 @@
 use Rattle.std.proofs.Common.{◌≡◌, ℕ, ◌-◌, List, [], ◌++◌, length, append_assoc, refl, ◌∙◌}
 use Rattle.rz_num.specs.Page.{page_up}
-use Rattle.rz_machine.specs.Memory.{zeros}
-use Rattle.rz_machine.specs.Elf.{Segment}
+use Rattle.rz_image.specs.Memory.{zeros}
+use Rattle.rz_elf.specs.declared.segment.Segment.{Segment}
 use Rattle.rz_machine.specs.WrittenFile.{Parts, header_page, new_segments, written_file}
 use Rattle.rz_machine.proofs.elf_write.write_elf.Goals as goal
 

@@ -1,6 +1,6 @@
 use Rattle.std.proofs.Common.{◌≡◌, ◌++◌, ◌-◌, length, ap, ap₂, ◌∙◌, take, replicate}
 use Rattle.std.proofs.lemmas.List.{take_all}
-use Rattle.rz_machine.specs.Memory.{zeros}
+use Rattle.rz_image.specs.Memory.{zeros}
 use Rattle.rz_machine.proofs.start.filled.Goals as goal
 
 pub returns : goal.returns

@@ -1,7 +1,9 @@
-use Rattle.std.proofs.Common.{append_assoc}
-use Rattle.rz_machine.proofs.Loads.{start_fits}
+use Rattle.std.proofs.Common.{◌≡◌, append_assoc, ap, subst}
+use Rattle.rz_elf.specs.Loaded.{ElfFile, IsRead}
+use Rattle.rz_machine.proofs.StartRegions.{start_ascends}
 use Rattle.rz_machine.proofs.start.start.Goals as goal
 
 pub new-requires : goal.new-requires
 new-requires c =
-    rw (c.in_ok-push-2.ensures.items, c.in_ok-push.ensures.items, c.in_ok-regions.ensures, c.in_ok-heap.ensures, c.in_ok-stack.ensures, append_assoc) (start_fits c.args.elf.now c.requires.loadable)
+    let top : c.elf.inside.first_break ≡ c.args.elf.now.first_break = ap (λ (e : ElfFile). e.first_break) c.elf.view_is in
+    rw (c.in_ok-push-2.ensures.items, c.in_ok-push.ensures.items, c.in_ok-regions.ensures.regions, c.in_ok-heap.ensures, c.in_ok-stack.ensures, top, append_assoc) (start_ascends c.args.elf.now (subst IsRead c.elf.view_is c.elf.invariant))

@@ -1,0 +1,10 @@
+pub mod Cells
+pub mod FindLaws
+pub mod MemoryLaws
+pub mod MemoryTurns
+pub mod OpenLaws
+pub mod PermLaws
+pub mod PutLaws
+pub mod RunLaws
+pub mod WordLaws
+pub mod Zeros

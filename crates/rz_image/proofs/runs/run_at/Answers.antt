@@ -1,0 +1,17 @@
+use Rattle.std.proofs.Common.{◌-◌, ◌≤◌, length, ap, sym, ◌∙◌, subst}
+use Rattle.rz_image.specs.declared.region.Region.{Region}
+use Rattle.rz_image.specs.Run.{run_in, IsRun}
+use Rattle.rz_image.proofs.FindLaws.{fits_at}
+use Rattle.rz_image.proofs.RunLaws.{region_run}
+use Rattle.rz_image.proofs.runs.run_at.Goals as goal
+
+pub run_in-requires-clause-opened : goal.run_in-requires-clause-opened
+run_in-requires-clause-opened c =
+    let r = c.index-regions-index.result in
+    subst (λ (x : Region). x.opened ≤ length x.bytes) (sym c.index-regions-index.is) (fits_at c.args.regions.now 0 c.in-Some.index r c.requires c.in-Some.ensures.some.there).2
+
+pub returns : goal.returns
+returns c =
+    let m = c.args.regions.now in
+    let r = c.index-regions-index.result in
+    subst (IsRun c.args.access m c.args.at) (ap (λ (x : Region). run_in c.args.access x (c.args.at - x.base)) (sym c.index-regions-index.is) ∙ sym c.run_in.ensures) (region_run c.args.access m c.in-Some.index c.args.at r c.requires c.in-Some.ensures.some)

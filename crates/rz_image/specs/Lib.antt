@@ -1,0 +1,4 @@
+pub mod Perm
+pub mod Memory
+pub mod Run
+pub mod Word

@@ -1,5 +1,0 @@
-use Rattle.rz_machine.proofs.PlainAccepted.{accepted_plain}
-use Rattle.rz_machine.proofs.law.accepted_files_are_plain.Goals as goal
-
-pub returns : goal.returns
-returns c = accepted_plain
