@@ -158,7 +158,7 @@ mod tests {
 
     #[test]
     fn headers_alone_are_refused(rt: HostRuntime) -> Result<(), Fail> {
-        let refused = Err(ElfError::Fault(ElfFault::Unbuilt));
+        let refused = Err(ElfError::Fault(ElfFault::Short));
         let file = Bytes::from_slice(rt.alloc(), &HEADERS[..63])?;
         assert_eq!(rt; read_thin(rt.alloc(), file).map(|elf| elf.entry), refused);
         Ok(())
