@@ -10,7 +10,7 @@ use Rattle.rz_machine.specs.Insn.{Decoder, Way, Onward, Jumps, Branches, Calls, 
 use Rattle.rz_machine.specs.First.{decode_first, HasSpelling}
 use Rattle.rz_machine.specs.TableLaws.{AreBytes, NamesInsn}
 use Rattle.rz_machine.specs.FirstLaws.{names_insns, spelled_where_decoded, spelled_anywhere}
-use Rattle.rz_machine.specs.Keeps.{Edges}
+use Rattle.rz_machine.specs.Kept.{Edges}
 use Rattle.rz_machine.specs.Nodes.{spelled_at}
 use Rattle.rz_machine.specs.Fragments.{items_by, items_for, trimmed, is_needless, first_node, fragments}
 use Rattle.rz_core.specs.Places.{nodes_of}

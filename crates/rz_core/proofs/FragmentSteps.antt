@@ -5,7 +5,7 @@ use Rattle.rz_machine.specs.declared.decode.Decoded.{Decoded}
 use Rattle.rz_machine.specs.declared.items.Fragment.{Fragment}
 use Rattle.rz_image.specs.Memory.{Regions}
 use Rattle.rz_machine.specs.Insn.{Decoder}
-use Rattle.rz_machine.specs.Keeps.{Edges}
+use Rattle.rz_machine.specs.Kept.{Edges}
 use Rattle.rz_machine.specs.Nodes.{spelled_at}
 use Rattle.rz_machine.specs.Fragments.{items_for, trimmed, first_node, fragments}
 

@@ -5,7 +5,7 @@ use Rattle.std.specs.List.{AllByRecursion}
 use Rattle.rz_elf.specs.declared.elf.Elf.{Elf}
 use Rattle.rz_machine.specs.declared.machine.Machine.{Machine}
 use Rattle.rz_sys.specs.declared.input.Input.{Input}
-use Rattle.rz_machine.specs.declared.trace.Record.{Record}
+use Rattle.rz_machine.specs.Kept.{Kept}
 use Rattle.rz_image.specs.Memory.{Regions, NoSelfWritten}
 use Rattle.rz_elf.specs.Elf.{fault_of, image_of, Image}
 use Rattle.rz_machine.specs.Insn.{Decoder}
@@ -17,7 +17,8 @@ use Rattle.rz_sys.specs.Input.{empty_input}
 use Rattle.rz_machine.specs.Start.{start}
 use Rattle.rz_machine.specs.Begun.{recorded}
 use Rattle.rz_machine.specs.LeftCode.{StaysInCode}
-use Rattle.rz_machine.specs.Recorded.{StandsIn, IsUncut}
+use Rattle.rz_machine.specs.Recorded.{IsUncut}
+use Rattle.rz_machine.specs.Nodes.{StandsIn}
 use Rattle.rz_machine.specs.Traced.{with_run}
 use Rattle.rz_machine.specs.WrittenFile.{Inert}
 use Rattle.rz_machine.specs.Keeps.{Keeps}
@@ -55,7 +56,7 @@ pub unwritten_of : (elf : Elf) → IsOfThin elf → NoSelfWritten (loaded elf).l
 unwritten_of elf h = none_self_written (loaded elf).loads (all_map IsPlainRegion IsFixed (λ r k. k.fixed) (loaded elf).loads (plain_of elf h))
 
 -- a record of nothing
-abbrev pub nothing : Record
+abbrev pub nothing : Kept
 nothing = record { nodes = []; edges = [] }
 
 -- a trace from nothing asks nothing of what was recorded before
@@ -70,18 +71,18 @@ empty_stands dec m =
     }
 
 -- the report names no sites
-pub report_is : (elf : Elf) (limit : ℕ) (kept : Record) (report : List ℕ) → IsOfThin elf → kept ≡ kept_of limit elf.bytes
+pub report_is : (elf : Elf) (limit : ℕ) (kept : Kept) (report : List ℕ) → IsOfThin elf → kept ≡ kept_of limit elf.bytes
     → report ≡ report_text (added decode_first (loaded elf) kept).scratch (length kept.edges) (length kept.nodes) 0 0
     → report ≡ report_of limit elf.bytes
 report_is elf limit kept report h same e =
     let m : Regions = (image_of elf.bytes).loads in
-    let k : Record = kept_of limit elf.bytes in
+    let k : Kept = kept_of limit elf.bytes in
     e
-    ∙ ap₂ (λ (i : Image) (r : Record). report_text (added decode_first i r).scratch (length r.edges) (length r.nodes) 0 0) h.image same
+    ∙ ap₂ (λ (i : Image) (r : Kept). report_text (added decode_first i r).scratch (length r.edges) (length r.nodes) 0 0) h.image same
     ∙ ap₂ (λ (es : List (ℕ × ℕ)) (ns : List ℕ). report_text (added decode_first (image_of elf.bytes) k).scratch (length k.edges) (length k.nodes) (length es) (length ns)) (sym (site_edges-first m k.edges)) (sym (sites-first m k.nodes))
 
 -- what is made of a thin file for the set that its run recorded
-pub debloated_of : (elf : Elf) (limit : ℕ) (kept : Record) (w : List ℕ) → IsOfThin elf → kept ≡ kept_of limit elf.bytes
+pub debloated_of : (elf : Elf) (limit : ℕ) (kept : Kept) (w : List ℕ) → IsOfThin elf → kept ≡ kept_of limit elf.bytes
     → StaysInCode decode_first limit (traced elf.bytes) → IsUncut decode_first kept.edges (traced elf.bytes) limit
     → Keeps decode_first elf.bytes w kept → Inert decode_first elf.bytes w kept
     → IsDebloated limit elf.bytes w
@@ -90,7 +91,7 @@ debloated_of elf limit kept w h same stays uncut keeps inert =
       thin = h.thin;
       stays = stays;
       keeps = subst (Keeps decode_first elf.bytes w) same keeps;
-      uncut = subst (λ (k : Record). IsUncut decode_first k.edges (traced elf.bytes) limit) same uncut;
+      uncut = subst (λ (k : Kept). IsUncut decode_first k.edges (traced elf.bytes) limit) same uncut;
       inert = subst (Inert decode_first elf.bytes w) same inert;
     }
 
@@ -99,10 +100,10 @@ pub traced_is : (elf : Elf) (input : Input) → IsOfThin elf → input ≡ empty
 traced_is elf input h e = ap₂ (λ (i : Image) (n : Input). start i n) h.image e
 
 -- what was recorded from nothing is the kept set
-pub kept_is : (elf : Elf) (limit : ℕ) (input : Input) (kept old : Record) → IsOfThin elf → input ≡ empty_input → old ≡ nothing
+pub kept_is : (elf : Elf) (limit : ℕ) (input : Input) (kept old : Kept) → IsOfThin elf → input ≡ empty_input → old ≡ nothing
     → kept ≡ with_run decode_first limit (start (loaded elf) input) old → kept ≡ kept_of limit elf.bytes
 unfolding with_run recorded
-kept_is elf limit input kept old h e o is = is ∙ ap₂ (λ (s : Machine) (r : Record). with_run decode_first limit s r) (traced_is elf input h e) o
+kept_is elf limit input kept old h e o is = is ∙ ap₂ (λ (s : Machine) (r : Kept). with_run decode_first limit s r) (traced_is elf input h e) o
 
-pub nothing_stands : (m : Regions) (old : Record) → old ≡ nothing → StandsIn decode_first m old
+pub nothing_stands : (m : Regions) (old : Kept) → old ≡ nothing → StandsIn decode_first m old
 nothing_stands m old o = subst (StandsIn decode_first m) (sym o) (empty_stands decode_first m)

@@ -6,14 +6,15 @@ use Rattle.std.proofs.lemmas.List.Folds.{list_any_at}
 use Rattle.rz_machine.specs.declared.items.Label.{Label}
 use Rattle.rz_machine.specs.declared.items.Label.TheVariants as label
 use Rattle.rz_machine.specs.declared.items.Fragment.{Fragment}
-use Rattle.rz_machine.specs.declared.trace.Record.{Record}
+use Rattle.rz_machine.specs.Kept.{Kept}
 use Rattle.rz_image.specs.Memory.{zeros}
 use Rattle.rz_elf.specs.Elf.{Image}
 use Rattle.rz_machine.specs.First.{decode_first}
 use Rattle.rz_machine.specs.Fragments.{fragments_bytes, address_of, total_len}
 use Rattle.rz_machine.specs.Added.{Added, added, tables_size, code_size, stubs_size, page_floor, lowest, parts_below, all_stubs, filled}
 use Rattle.rz_machine.specs.declared.elf_write.Parts.{Parts}
-use Rattle.rz_machine.specs.Rewritable.{IsRewritable, IsAscending}
+use Rattle.rz_machine.specs.Nodes.{IsPlausible}
+use Rattle.rz_machine.specs.Kept.{IsAscending}
 use Rattle.rz_elf.specs.PlainImage.{IsPlainImage}
 use Rattle.rz_machine.specs.Rewritten.{HasRoom, IsRewritten, fragments_of, place_of, code_of_nodes}
 use Rattle.rz_machine.proofs.AddedLaws.{sites-first, site_edges-first}
@@ -28,7 +29,7 @@ use Rattle.rz_core.specs.Places.{Placing, address_in, nodes_of, IsPlacingOf}
 use Rattle.rz_core.proofs.FragmentLaws.{nodes_of_fragments, length-fragments}
 use Rattle.rz_machine.proofs.Emitted.{total_most}
 
-module _ (x : Image) (kept : Record) (plain : IsPlainImage x) (can : IsRewritable decode_first x kept) (room : HasRoom decode_first x kept) where
+module _ (x : Image) (kept : Kept) (plain : IsPlainImage x) (can : IsRewritable decode_first x kept) (room : HasRoom decode_first x kept) where
   abbrev a : Added
   a = added decode_first x kept
 

@@ -7,7 +7,7 @@ use Rattle.rz_machine.specs.declared.items.Label.TheVariants as label
 use Rattle.rz_machine.specs.declared.items.Fragment.{Fragment}
 use Rattle.rz_machine.specs.Fragments.{items_len, place_in, total_len}
 use Rattle.rz_machine.specs.Added.{index_of}
-use Rattle.rz_machine.specs.Rewritable.{IsAscending}
+use Rattle.rz_machine.specs.Kept.{IsAscending}
 use Rattle.rz_core.specs.Places.{nodes_of, places_from, Placing, IsLaidOut, IsPlacingOf}
 
 -- the place that is beside a node is the one where its fragment stands

@@ -2,7 +2,7 @@
 use Rattle.std.proofs.Common.{◌≡◌, ℕ, ◌+◌, ◌≤◌, List, length, sym, ap, ◌∙◌, subst, arith}
 use Rattle.rz_elf.specs.declared.elf.Elf.{Elf}
 use Rattle.rz_machine.specs.declared.elf_write.Parts.{Parts}
-use Rattle.rz_machine.specs.declared.trace.Record.{Record}
+use Rattle.rz_machine.specs.Kept.{Kept}
 use Rattle.rz_elf.specs.Elf.{image_of}
 use Rattle.rz_machine.specs.First.{decode_first}
 use Rattle.rz_machine.specs.TableLaws.{AreBytes}
@@ -11,7 +11,7 @@ use Rattle.rz_machine.specs.Keeps.{Keeps}
 use Rattle.rz_elf.specs.Loaded.{loaded}
 use Rattle.rz_machine.specs.ThinElf.{thin_elf}
 use Rattle.rz_elf.specs.PlainImage.{IsPlainImage}
-use Rattle.rz_machine.specs.Rewritable.{IsRewritable}
+use Rattle.rz_machine.specs.Nodes.{IsPlausible}
 use Rattle.rz_machine.specs.Rewritten.{HasRoom, IsRewritten}
 use Rattle.rz_machine.specs.Thin.{IsThin, thin_base}
 use Rattle.rz_machine.specs.WrittenFile.{written_file, Inert}
@@ -22,7 +22,7 @@ use Rattle.rz_machine.proofs.RewrittenLaws.{lie}
 use Rattle.rz_machine.proofs.ThinKept.{thin_room, thin_kept}
 use Rattle.rz_machine.proofs.ThinLoads.{thin_fault, elf_of-thin}
 
-module _ (elf : Elf) (kept : Record) (thin : IsThin elf.bytes) (bytes : AreBytes elf.bytes) (read : elf ≡ thin_elf elf.bytes) (can : IsRewritable decode_first (loaded elf) kept) where
+module _ (elf : Elf) (kept : Kept) (thin : IsThin elf.bytes) (bytes : AreBytes elf.bytes) (read : elf ≡ thin_elf elf.bytes) (can : IsRewritable decode_first (loaded elf) kept) where
   image : loaded elf ≡ image_of elf.bytes
   image = ap loaded (read ∙ sym (elf_of-thin elf.bytes thin)) ∙ loaded-elf_of elf.bytes
 

@@ -1,7 +1,7 @@
 -- What debloating makes of a file: the kept set of its run on the empty input, the written file, and the report.
 use Rattle.std.specs.Prelude.{ℕ, List, length}
 use Rattle.rz_machine.specs.declared.machine.Machine.{Machine}
-use Rattle.rz_machine.specs.declared.trace.Record.{Record}
+use Rattle.rz_machine.specs.Kept.{Kept}
 use Rattle.rz_elf.specs.Elf.{image_of}
 use Rattle.rz_machine.specs.First.{decode_first}
 use Rattle.rz_sys.specs.Input.{empty_input}
@@ -20,7 +20,7 @@ abbrev pub traced : List ℕ → Machine
 traced x = start (image_of x) empty_input
 
 -- the nodes and edges of the first `limit` steps of that run
-abbrev pub kept_of : ℕ → List ℕ → Record
+abbrev pub kept_of : ℕ → List ℕ → Kept
 kept_of limit x = recorded decode_first limit (traced x)
 
 -- w is what debloating makes of x with this limit

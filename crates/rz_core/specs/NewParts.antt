@@ -1,6 +1,6 @@
 -- What stands in the parts of a new file.
 use Rattle.std.specs.Prelude.{◌-◌}
-use Rattle.rz_machine.specs.declared.trace.Record.{Record}
+use Rattle.rz_machine.specs.Kept.{Kept}
 use Rattle.rz_image.specs.Memory.{zeros}
 use Rattle.rz_elf.specs.Elf.{Image}
 use Rattle.rz_machine.specs.Insn.{Decoder}
@@ -15,7 +15,7 @@ abbrev pub range_of : AddedRange → Added
 range_of r = record { scratch = r.scratch; tables = r.tables; code = r.code; stubs = r.stubs; stop = r.stop }
 
 -- the parts of the new file: the tables are zeros, the code is the fragments with INT3 up to its size
-abbrev pub new_parts_of : Decoder → Image → Record → Parts
+abbrev pub new_parts_of : Decoder → Image → Kept → Parts
 new_parts_of dec x kept =
     let a = added dec x kept in
     record {

@@ -5,7 +5,7 @@ use Rattle.rz_machine.specs.declared.items.Label.TheVariants as label
 use Rattle.rz_machine.specs.declared.items.Fragment.{Fragment}
 use Rattle.rz_machine.specs.Fragments.{items_len, address_of}
 use Rattle.rz_machine.specs.Added.{Added, index_of}
-use Rattle.rz_machine.specs.Rewritable.{IsAscending}
+use Rattle.rz_machine.specs.Kept.{IsAscending}
 
 -- the addresses of the instructions that the fragments stand for
 abbrev pub nodes_of : List Fragment → List ℕ

@@ -3,7 +3,7 @@
 ghost use Rattle.std.specs.Prelude.{◌≡◌, ◌+◌, ◌*◌, ◌^◌, ◌<◌, ◌≤◌, length, slice_index, IfOk};
 ghost use Rattle.rz_machine.specs.Added.{index_of};
 ghost use Rattle.rz_machine.specs.Fragments.{item_len as len_of_item, items_len as len_of_items, total_len};
-ghost use Rattle.rz_machine.specs.Rewritable.{IsAscending};
+ghost use Rattle.rz_machine.specs.Kept.{IsAscending};
 ghost use Rattle.rz_core.specs.Places.{address_in, nodes_of, IsPlacingOf};
 
 use rz_machine::encode::encoded_len;

@@ -7,7 +7,7 @@ ghost use Rattle.rz_machine.specs.Added.{added};
 ghost use Rattle.rz_machine.specs.Keeps.{Keeps};
 ghost use Rattle.rz_machine.specs.LeftCode.{StaysInCode};
 ghost use Rattle.rz_machine.specs.Recorded.{IsUncut};
-ghost use Rattle.rz_machine.specs.Rewritable.{IsRewritable};
+ghost use Rattle.rz_machine.specs.Nodes.{IsPlausible};
 ghost use Rattle.rz_machine.specs.WrittenFile.{Inert};
 ghost use Rattle.rz_core.specs.Debloated.{IsDebloated, kept_of, traced, report_of};
 ghost use Rattle.rz_core.specs.Making.{IsOfThin, MakeRefused};

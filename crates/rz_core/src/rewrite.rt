@@ -9,7 +9,7 @@ ghost use Rattle.rz_machine.specs.Keeps.{Keeps};
 ghost use Rattle.rz_elf.specs.Loaded.{loaded};
 ghost use Rattle.rz_machine.specs.ThinElf.{thin_elf};
 ghost use Rattle.rz_elf.specs.PlainImage.{IsPlainImage};
-ghost use Rattle.rz_machine.specs.Rewritable.{IsRewritable};
+ghost use Rattle.rz_machine.specs.Nodes.{IsPlausible};
 ghost use Rattle.rz_machine.specs.Rewritten.{HasRoom, IsRewritten, fragments_of as frags_of, place_of};
 ghost use Rattle.rz_machine.specs.Thin.{IsThin};
 ghost use Rattle.rz_machine.specs.WrittenFile.{written_file, Inert};

@@ -165,6 +165,7 @@ pub record SamePerms (c d : Cell) : Type 0 where
   pub write : c.write ≡ d.write
   pub execute : c.execute ≡ d.execute
 
--- the permissions in a range stand as in an older memory
-pub record PermsStand (r : Range) (old m : Regions) : Type 0 where
-  pub at : (a : ℕ) → IsInside r a → SamePerms (cell_at old a) (cell_at m a)
+-- in a range the permissions of an older memory stand, and its bytes that may not be written
+pub record RangeStands (r : Range) (old m : Regions) : Type 0 where
+  pub perms : (a : ℕ) → IsInside r a → SamePerms (cell_at old a) (cell_at m a)
+  pub bytes : (a : ℕ) → IsInside r a → (cell_at old a).write ≡ false → (cell_at m a).byte ≡ (cell_at old a).byte

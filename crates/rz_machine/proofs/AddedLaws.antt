@@ -2,13 +2,12 @@
 use Rattle.std.proofs.Common.{◌≡◌, ℕ, ◌-◌, ◌*◌, ◌%◌, ◌<◌, ◌≤◌, Bool, false, List, [], ◌∷◌, length, refl, sym, ap, ap₂, ◌∙◌, subst, arith}
 use Rattle.rz_machine.specs.declared.decode.Decoded.{Decoded}
 use Rattle.rz_machine.specs.declared.decode.Decoded.TheVariants as decoded
-use Rattle.rz_machine.specs.declared.trace.Record.{Record}
-use Rattle.rz_image.specs.Memory.{Regions, fetch}
+use Rattle.rz_machine.specs.Kept.{Kept, sorted, sorted_edges}
 use Rattle.rz_machine.specs.Insn.{Way, Onward, Jumps, Branches, Calls, Halts, way_of, kind_in, kind_of, is_site}
-use Rattle.rz_machine.specs.Nodes.{is_site_at}
+use Rattle.rz_machine.specs.Nodes.{Code, code_in, spelled_at, is_site_at}
 use Rattle.rz_machine.specs.First.{decode_first}
 use Rattle.rz_elf.specs.Elf.{image_of, fault_of}
-use Rattle.rz_machine.specs.Added.{Added, sites, site_edges, tables_size, code_size, stubs_size, parts_below, added, all_stubs, filled}
+use Rattle.rz_machine.specs.Added.{Added, node_count, sites, site_edges, tables_size, code_size, stubs_size, parts_below, added, all_stubs, filled}
 use Rattle.rz_machine.specs.WrittenFile.{Parts, IsAdded, stubs_part, written_file, new_image, Inert}
 use Rattle.rz_machine.specs.Thin.{thin_base, thin_file, IsThin}
 use Rattle.rz_machine.proofs.ThinLaws.{code_region, thin_image}
@@ -34,24 +33,24 @@ no_site decoded.Short = refl
 no_site decoded.Unknown = refl
 
 -- the first table has no returns and no indirect transfers
-pub is_site_at-first : (m : Regions) (a : ℕ) → is_site_at decode_first m a ≡ false
-is_site_at-first m a = no_site (decode_first (fetch m a 15) a)
+pub is_site_at-first : (code : Code) (a : ℕ) → is_site_at decode_first code a ≡ false
+is_site_at-first code a = no_site (spelled_at decode_first code a)
 
-pub sites-first : (m : Regions) (nodes : List ℕ) → sites decode_first m nodes ≡ []
-sites-first m [] = refl
-sites-first m (a ∷ nodes) = rw (is_site_at-first m a) (sites-first m nodes)
+pub sites-first : (code : Code) (nodes : List ℕ) → sites decode_first code nodes ≡ []
+sites-first code [] = refl
+sites-first code (a ∷ nodes) = rw (is_site_at-first code a) (sites-first code nodes)
 
-pub site_edges-first : (m : Regions) (edges : List (ℕ × ℕ)) → site_edges decode_first m edges ≡ []
-site_edges-first m [] = refl
-site_edges-first m (e ∷ edges) = rw (is_site_at-first m e.0) (site_edges-first m edges)
+pub site_edges-first : (code : Code) (edges : List (ℕ × ℕ)) → site_edges decode_first code edges ≡ []
+site_edges-first code [] = refl
+site_edges-first code (e ∷ edges) = rw (is_site_at-first code e.0) (site_edges-first code edges)
 
 -- the parts that are added for so many nodes
 abbrev pub thin_added : ℕ → Added
 thin_added n = parts_below (tables_size 0 0) (code_size n 0 0) (stubs_size n) thin_base
 
-pub added-thin : (code : List ℕ) (kept : Record) → 1 ≤ length code → length code ≤ 65536 → added decode_first (image_of (thin_file code)) kept ≡ thin_added (length kept.nodes)
+pub added-thin : (code : List ℕ) (kept : Kept) → 1 ≤ length code → length code ≤ 65536 → added decode_first (image_of (thin_file code)) kept ≡ thin_added (node_count kept)
 added-thin code kept h k =
-    rw (thin_image code h k, sites-first (code_region code ∷ []) kept.nodes, site_edges-first (code_region code ∷ []) kept.edges) refl
+    rw (thin_image code h k, sites-first (code_in (code_region code ∷ [])) (sorted kept.nodes), site_edges-first (code_in (code_region code ∷ [])) (sorted_edges kept.edges)) refl
 
 -- the sizes of the code and the stubs for up to 65,536 nodes
 code_paged : (n : ℕ) → code_size n 0 0 % 4096 ≡ 0
@@ -107,15 +106,15 @@ parts_fit nodes p entry some few h =
     h.base (h.tables ∙ tables_long) (h.code ∙ code_long) (ap length h.stubs ∙ (filled_long ∙ stubs_long)) h.entry_from h.entry_below
 
 -- the written file of a thin file with the added parts is inert
-pub inert_of : (x w : List ℕ) (kept : Record) (p : Parts) (entry : ℕ) → IsThin x → 1 ≤ length kept.nodes → length kept.nodes ≤ 65536 → IsAdded (added decode_first (image_of x) kept) kept.nodes p entry → w ≡ written_file x p entry → Inert decode_first x w kept
+pub inert_of : (x w : List ℕ) (kept : Kept) (p : Parts) (entry : ℕ) → IsThin x → 1 ≤ node_count kept → node_count kept ≤ 65536 → IsAdded (added decode_first (image_of x) kept) (sorted kept.nodes) p entry → w ≡ written_file x p entry → Inert decode_first x w kept
 inert_of x w kept p entry thin some few h bytes =
     let a = added decode_first (image_of x) kept in
-    let at : a ≡ thin_added (length kept.nodes) = ap (λ (y : List ℕ). added decode_first (image_of y) kept) thin.file ∙ added-thin thin.code kept thin.some thin.few in
-    let fit : PartsFit p entry = parts_fit kept.nodes p entry some few (subst (λ (b : Added). IsAdded b kept.nodes p entry) at h) in
+    let at : a ≡ thin_added (node_count kept) = ap (λ (y : List ℕ). added decode_first (image_of y) kept) thin.file ∙ added-thin thin.code kept thin.some thin.few in
+    let fit : PartsFit p entry = parts_fit (sorted kept.nodes) p entry some few (subst (λ (b : Added). IsAdded b (sorted kept.nodes) p entry) at h) in
     let file : w ≡ written_file (thin_file thin.code) p entry = bytes ∙ ap (λ (y : List ℕ). written_file y p entry) thin.file in
     let b = h.base in
     let s = h.stubs in
-    let same : p ≡ record { base = a.scratch; tables = p.tables; code = p.code; stubs = stubs_part a kept.nodes } = λ i. record { base = b i; tables = p.tables; code = p.code; stubs = s i } in
+    let same : p ≡ record { base = a.scratch; tables = p.tables; code = p.code; stubs = stubs_part a (sorted kept.nodes) } = λ i. record { base = b i; tables = p.tables; code = p.code; stubs = s i } in
     record {
       tables = p.tables;
       code = p.code;

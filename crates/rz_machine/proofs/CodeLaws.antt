@@ -3,7 +3,7 @@ use Rattle.std.proofs.Common.{◌≡◌, ◌≢◌, ℕ, zero, suc, ◌+◌, ⊎
 use Rattle.std.proofs.lemmas.Bool.{cases_eq}
 use Rattle.rz_image.specs.Memory.{Cell}
 use Rattle.rz_machine.specs.declared.machine.Machine.{Machine}
-use Rattle.rz_image.specs.Memory.{Regions, Range, cell_at, put_byte, code_of, fetched, fetch, SameCode, NoSelfWritten, SamePerms, PermsStand}
+use Rattle.rz_image.specs.Memory.{Regions, Range, cell_at, put_byte, code_of, fetched, fetch, SameCode, NoSelfWritten, SamePerms, RangeStands}
 use Rattle.rz_machine.specs.Insn.{Decoder}
 use Rattle.rz_machine.specs.State.{step, after}
 use Rattle.rz_image.specs.Laws.Puts.{set_byte, cell_at-put_same, cell_at-put_other}
@@ -63,10 +63,29 @@ has_code_put old m a b h =
         let P : ℕ → Type 0 = λ d. code_of (cell_at (put_byte m a b) d) ≡ code_of (cell_at m d) in
         subst P (sym e) (ap code_of (cell_at-put_same m a b) ∙ code_set b (cell_at m a) (h.fixed.at a))
 
--- a put of a byte leaves the permissions of a range
-perms_stand_put : (r : Range) (old : Regions) → StandsPut (PermsStand r old)
-perms_stand_put r old m a b h =
-    record { at = λ c i. let p = perms_put m a b c in let q = h.at c i in record { read = q.read ∙ p.read; write = q.write ∙ p.write; execute = q.execute ∙ p.execute } }
+-- another byte in a cell that may not be written leaves its byte
+byte_set : (b : ℕ) (c : Cell) → c.write ≡ false → (set_byte b c).byte ≡ c.byte
+byte_set b c h = go c.write h
+  where
+    go : (w : Bool) → w ≡ false → (if w then record c { byte = b } else c).byte ≡ c.byte
+    go true h = cc
+    go false h = refl
+
+-- a put of a byte leaves the permissions of a range, and what may not be written there
+range_stands_put : (r : Range) (old : Regions) → StandsPut (RangeStands r old)
+range_stands_put r old m a b h =
+    record {
+      perms = λ c i. let p = perms_put m a b c in let q = h.perms c i in record { read = q.read ∙ p.read; write = q.write ∙ p.write; execute = q.execute ∙ p.execute };
+      bytes = λ c i w. let q = h.perms c i in stays c (sym q.write ∙ w) ∙ h.bytes c i w;
+    }
+  where
+    stays : (c : ℕ) → (cell_at m c).write ≡ false → (cell_at (put_byte m a b) c).byte ≡ (cell_at m c).byte
+    stays c w = ⊎_elim (here c w) (λ ne. ap (λ d. d.byte) (cell_at-put_other m a b c ne)) (cases_eq c a)
+      where
+        here : (c : ℕ) → (cell_at m c).write ≡ false → c ≡ a → (cell_at (put_byte m a b) c).byte ≡ (cell_at m c).byte
+        here c w e =
+            let P : ℕ → Type 0 = λ d. (cell_at m d).write ≡ false → (cell_at (put_byte m a b) d).byte ≡ (cell_at m d).byte in
+            subst P (sym e) (λ w. ap (λ d. d.byte) (cell_at-put_same m a b) ∙ byte_set b (cell_at m a) w) w
 
 -- the code stands through steps
 pub step_code : (old : Regions) (dec : Decoder) (s : Machine) → HasCode old s.mem → HasCode old (step dec s).mem
@@ -75,6 +94,6 @@ step_code old = step_stands (HasCode old) (has_code_put old)
 pub after_code : (old : Regions) (dec : Decoder) (n : ℕ) (s : Machine) → HasCode old s.mem → HasCode old (after dec n s).mem
 after_code old = after_stands (HasCode old) (has_code_put old)
 
--- the permissions of a range stand through steps
-pub after_perms : (r : Range) (old : Regions) (dec : Decoder) (n : ℕ) (s : Machine) → PermsStand r old s.mem → PermsStand r old (after dec n s).mem
-after_perms r old = after_stands (PermsStand r old) (perms_stand_put r old)
+-- so does a range
+pub after_range : (r : Range) (old : Regions) (dec : Decoder) (n : ℕ) (s : Machine) → RangeStands r old s.mem → RangeStands r old (after dec n s).mem
+after_range r old = after_stands (RangeStands r old) (range_stands_put r old)

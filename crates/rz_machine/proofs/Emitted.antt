@@ -9,9 +9,8 @@ use Rattle.rz_machine.specs.declared.items.Item.{Item}
 use Rattle.rz_machine.specs.declared.items.Fragment.{Fragment}
 use Rattle.rz_image.specs.Memory.{Regions, wrap}
 use Rattle.rz_machine.specs.Insn.{Decoder}
-use Rattle.rz_machine.specs.Keeps.{Edges}
-use Rattle.rz_machine.specs.Nodes.{spelled_at}
-use Rattle.rz_machine.specs.Rewritable.{has_node, IsAscending}
+use Rattle.rz_machine.specs.Kept.{Edges, has_node, IsAscending}
+use Rattle.rz_machine.specs.Nodes.{Code, spelled_at}
 use Rattle.rz_machine.specs.Fragments.{items_for, trimmed, first_node, fragments, items_len, total_len, place_in, items_bytes, fragments_bytes}
 use Rattle.rz_machine.proofs.Placed.{BytesAt, bytes_front, bytes_back, length-items}
 use Rattle.rz_machine.proofs.Trimmed.{length-trimmed, length-items_of}
@@ -58,7 +57,7 @@ above a (c ∷ nodes) h b e = go (c == b) refl e (above a nodes h.1 b)
     go true f e ih = let g : c ≡ b = eqb-true c b f in let k = h.0 in omega (arith, g, k)
     go false f e ih = ih e
 
-module _ (dec : Decoder) (x : Regions) (edges : Edges) where
+module _ (dec : Decoder) (x : Code) (edges : Edges) where
   abbrev pub frags : List ℕ → List Fragment
   frags nodes = fragments dec x edges nodes
 

@@ -9,19 +9,19 @@ use Rattle.rz_machine.specs.declared.decode.Decoded.{Decoded}
 use Rattle.rz_machine.specs.declared.machine.End.{End}
 use Rattle.rz_machine.specs.declared.machine.End.TheVariants as end
 use Rattle.rz_machine.specs.declared.machine.Machine.{Machine}
-use Rattle.rz_sys.specs.declared.world.World.{World}
 use Rattle.rz_image.specs.Memory.{Regions, IsInside}
 use Rattle.rz_machine.specs.Insn.{Decoder, Way, Onward, Jumps, Branches, Calls, Halts, way_of}
 use Rattle.rz_machine.specs.First.{mov_number}
 use Rattle.rz_machine.specs.Effect.{Effect, PlainEffect, plain_effect, plainly, effect_by, Done, Went, Stopped, carry, read_words, EffectClear}
-use Rattle.rz_sys.specs.Answer.{Called, answer, call_in, rdi, rsi, rdx, world_after}
+use Rattle.rz_sys.specs.Answer.{Called, answer}
 use Rattle.rz_machine.specs.State.{step, after, perform, perform_by, perform_effect, after_done, after_call, after_exit, onward, stopped}
 use Rattle.rz_machine.specs.Touches.{StepClear, InsnClear, WayClear}
 use Rattle.rz_machine.specs.Added.{Layout}
-use Rattle.rz_machine.specs.Keeps.{Same, Edges, AlikeEnds}
+use Rattle.rz_machine.specs.Keeps.{Same, AlikeEnds}
+use Rattle.rz_machine.specs.Kept.{Edges}
 use Rattle.rz_machine.proofs.Outcomes.{DoneHas, carry_has}
 use Rattle.rz_machine.proofs.CodeLaws.{HasCode, step_code}
-use Rattle.rz_sys.specs.Laws.Alike.{CalledAlike, call_alike}
+use Rattle.rz_sys.specs.Laws.Alike.{CalledAlike, answer_alike, world_after_alike}
 use Rattle.rz_machine.proofs.OneForm.{DoneAlike, carry_alike}
 use Rattle.rz_machine.proofs.Runs.{dest, Follows, Stand}
 use Rattle.rz_machine.proofs.Placed.{InsnAt}
@@ -207,10 +207,6 @@ module _ (dec : Decoder) (edges : Edges) (lay : Layout) (place bound : ℕ → �
       let same : Same lay.added (stopped (end.Illegal s.cpu.rip) s) (stopped (end.Illegal t.cpu.rip) t) = record { regs = st.same.regs; flags = st.same.flags; world = st.same.world; mem = st.same.mem } in
       subst Q (sym f) (ends_now a (stopped (end.Illegal s.cpu.rip) s) t (stopped (end.Illegal t.cpu.rip) t) (end.Illegal s.cpu.rip) (end.Illegal t.cpu.rip) e refl refl (inr in_code) same)
 
-  -- alike calls leave the same world
-  world_alike : (regs regs' : List ℕ) (w w' : World) (c d : Called) → regs ≡ regs' → w ≡ w' → CalledAlike lay.added c d → world_after regs w c ≡ world_after regs' w' d
-  world_alike regs regs' w w' c d e f h = let x1 = h.answer in let x2 = h.bytes in let x3 = h.stdin in let x4 = h.replies in cc
-
   -- after a call, which ends the run or goes on with RCX set to the old next address
   call_follows : (a n p : ℕ) (s t : Machine) (c d : Called) (o : Option ℕ) → c.exit ≡ o → CalledAlike lay.added c d → Stand lay place xm wm s t → step dec t ≡ after_call d p t
       → (q : ℕ) → n < 2 ^ 32 → InsnAt dec wm p (mov_number 1 n) q → Onto dec wm q (To a n)
@@ -218,7 +214,7 @@ module _ (dec : Decoder) (edges : Edges) (lay : Layout) (place bound : ℕ → �
   call_follows a n p s t c d (Some status) exit alike st e q low mov ahead =
       let e2 : step dec t ≡ after_exit (Some status) d p t = e ∙ ap (λ o. after_exit o d p t) (sym alike.exit ∙ exit) in
       ends_now a (after_exit (Some status) c n s) t (after_exit (Some status) d p t) (end.Exit status) (end.Exit status) e2 refl refl refl
-      (record { regs = st.same.regs; flags = st.same.flags; world = world_alike s.cpu.regs t.cpu.regs s.world t.world c d st.same.regs st.same.world alike; mem = st.same.mem })
+      (record { regs = st.same.regs; flags = st.same.flags; world = world_after_alike lay.added s.cpu.regs t.cpu.regs s.world t.world c d st.same.regs st.same.world alike; mem = st.same.mem })
   call_follows a n p s t c d None exit alike st e q low mov ahead =
       let s1 = after_exit None c n s in
       let t1 = after_exit None d p t in
@@ -232,7 +228,7 @@ module _ (dec : Decoder) (edges : Edges) (lay : Layout) (place bound : ℕ → �
       ap₂ (λ r f. set (set (set r 0 c.answer) 1 n) 11 (flags_word f)) st.same.regs st.same.flags
       ∙ ap (λ x. set (set (set t.cpu.regs 0 x) 1 n) 11 (flags_word t.cpu.flags)) alike.answer
       ∙ sym (rcx_again t.cpu.regs d.answer p (flags_word t.cpu.flags) n) in
-      let same : Same lay.added s1 t2 = record { regs = regs; flags = st.same.flags; world = world_alike s.cpu.regs t.cpu.regs s.world t.world c d st.same.regs st.same.world alike; mem = alike.mem } in
+      let same : Same lay.added s1 t2 = record { regs = regs; flags = st.same.flags; world = world_after_alike lay.added s.cpu.regs t.cpu.regs s.world t.world c d st.same.regs st.same.world alike; mem = alike.mem } in
       let there = To a n in
       let last : Comes dec lay.added s1 t2 0 1 there = onto dec lay.added wm q there ahead s1 t2 st.new_runs refl code2 same in
       let all : Comes dec lay.added s1 t 2 3 there = one_more dec lay.added s1 t t1 1 2 there e1 (one_more dec lay.added s1 t1 t2 0 1 there e2 last) in
@@ -241,17 +237,13 @@ module _ (dec : Decoder) (edges : Edges) (lay : Layout) (place bound : ℕ → �
   -- a system call is made as it is, and RCX set to the old next address
   syscall_follows : (x : Insn) (a n p q : ℕ) (s t : Machine) → way_of x ≡ Calls → InsnAt dec xm a x n → n < 2 ^ 32 → InsnAt dec wm (place a) x p → InsnAt dec wm p (mov_number 1 n) q → Onto dec wm q (To a n)
       → WayClear lay.added Calls x s → s.cpu.rip ≡ a → Stand lay place xm wm s t → Follows dec edges lay place bound a (step dec s) t
-  unfolding answer
   syscall_follows x a n p q s t is old low new mov ahead clear rip st =
       let there : t.cpu.rip ≡ place a = st.there ∙ ap place rip in
       let c = answer s.cpu.regs s.mem s.world in
       let d = answer t.cpu.regs t.mem t.world in
       let f : step dec s ≡ after_call c n s = step_is dec xm a x n old s st.old_runs rip st.old_code ∙ ap (λ w. perform_by w x n s) is in
       let e : step dec t ≡ after_call d p t = step_is dec wm (place a) x p new t st.new_runs there st.new_code ∙ ap (λ w. perform_by w x p t) is in
-      let one = call_alike lay.added s.mem t.mem s.world (call_in s.cpu.regs) (rdi s.cpu.regs) (rsi s.cpu.regs) (rdx s.cpu.regs) clear st.same.mem in
-      let P : List ℕ → Type 0 = λ r. CalledAlike lay.added c (answer r t.mem s.world) in
-      let W : World → Type 0 = λ w. CalledAlike lay.added c (answer t.cpu.regs t.mem w) in
-      let alike : CalledAlike lay.added c d = subst W st.same.world (subst P st.same.regs one) in
+      let alike : CalledAlike lay.added c d = answer_alike lay.added s.cpu.regs t.cpu.regs s.mem t.mem s.world t.world clear st.same.regs st.same.world st.same.mem in
       let Q : Machine → Type 0 = λ u. Follows dec edges lay place bound a u t in
       subst Q (sym f) (call_follows a n p s t c d c.exit refl alike st e q low mov ahead)
 

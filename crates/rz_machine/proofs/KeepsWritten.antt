@@ -9,18 +9,20 @@ use Rattle.rz_machine.specs.declared.items.Label.TheVariants as label
 use Rattle.rz_machine.specs.declared.machine.End.TheVariants as end
 use Rattle.rz_machine.specs.declared.machine.Machine.{Machine}
 use Rattle.rz_sys.specs.declared.input.Input.{Input}
-use Rattle.rz_machine.specs.declared.trace.Record.{Record}
-use Rattle.rz_image.specs.Memory.{Regions, IsOutside, SameCell, Alike, cell_at, wrap}
+use Rattle.rz_machine.specs.Kept.{Kept, has_node, sorted}
+use Rattle.rz_image.specs.Memory.{Regions, IsOutside, SameCell, Alike, RangeStands, cell_at, wrap}
 use Rattle.rz_machine.specs.State.{step}
 use Rattle.rz_machine.specs.Touches.{StepClear}
 use Rattle.rz_machine.specs.Start.{start, heap_region, stack_region, first_regs, first_rsp}
 use Rattle.rz_machine.specs.First.{decode_first}
 use Rattle.rz_elf.specs.Elf.{Image}
-use Rattle.rz_machine.specs.Added.{Added, Layout, added, layout_of, all_stubs}
+use Rattle.rz_machine.specs.Added.{Added, Layout, node_count, added, layout_of, all_stubs}
 use Rattle.rz_machine.specs.WrittenFile.{Parts, added_regions, without_code, new_image}
-use Rattle.rz_machine.specs.Keeps.{KeepsRun}
+use Rattle.rz_machine.specs.Keeps.{StopsAtStub, KeepsRun}
 use Rattle.rz_machine.specs.Pace.{Paced}
-use Rattle.rz_machine.specs.Rewritable.{IsRewritable, has_node}
+use Rattle.rz_machine.specs.Nodes.{code_in, IsPlausible}
+use Rattle.rz_machine.proofs.SetLaws.{has_node-sorted, IsAscending-sorted}
+use Rattle.rz_sys.specs.Laws.Alike.{same_world}
 use Rattle.rz_machine.specs.Fragments.{items_of, items_for, trimmed, items_len, address_of, items_bytes}
 use Rattle.rz_elf.specs.PlainImage.{IsPlainImage}
 use Rattle.rz_machine.specs.Rewritten.{HasRoom, IsRewritten, fragments_of, place_of, code_of_nodes}
@@ -50,7 +52,7 @@ first_regs-are input = set_regs (replicate 16 0) 4 _ (record { sixteen = refl; w
     zeros : AllByRecursion (λ v. v < 2 ^ 64) (replicate 16 0)
     zeros = let z = zero_word in (z, (z, (z, (z, (z, (z, (z, (z, (z, (z, (z, (z, (z, (z, (z, (z, tt))))))))))))))))
 
-module _ (x : Image) (kept : Record) (parts : Parts) (entry : ℕ) (can : IsRewritable decode_first x kept) (plain : IsPlainImage x) (room : HasRoom decode_first x kept) (are : IsRewritten decode_first x kept parts entry) (input : Input) where
+module _ (x : Image) (kept : Kept) (parts : Parts) (entry : ℕ) (can : IsPlausible decode_first (code_in x.loads) x.entry kept) (plain : IsPlainImage x) (room : HasRoom decode_first x kept) (are : IsRewritten decode_first x kept parts entry) (input : Input) where
   abbrev a : Added
   a = added decode_first x kept
 
@@ -61,7 +63,7 @@ module _ (x : Image) (kept : Record) (parts : Parts) (entry : ℕ) (can : IsRewr
   place = place_of decode_first x kept
 
   abbrev at : Label → ℕ
-  at = address_of (fragments_of decode_first x kept) kept.nodes a
+  at = address_of (fragments_of decode_first x kept) (sorted kept.nodes) a
 
   abbrev IsKept : ℕ → Type 0
   IsKept b = has_node kept.nodes b ≡ true
@@ -125,14 +127,16 @@ module _ (x : Image) (kept : Record) (parts : Parts) (entry : ℕ) (can : IsRewr
   fragment_at : (b : ℕ) (y : Insn) (len : ℕ) → IsKept b → Stands x plain b y len → FragmentAt decode_first kept.edges lay place new.mem b (wrap (b + len)) y
   fragment_at b y len node s =
       let code : ℕ = a.code in
-      let f : Found decode_first x.loads kept.edges new.mem at kept.nodes code b = found decode_first x.loads kept.edges new.mem at kept.nodes code b are.fill can.ascending node code_bytes in
+      let nodes : List ℕ = sorted kept.nodes in
+      let in_order : has_node nodes b ≡ true = has_node-sorted kept.nodes b ∙ node in
+      let f : Found decode_first (code_in x.loads) kept.edges new.mem at nodes code b = found decode_first (code_in x.loads) kept.edges new.mem at nodes code b are.fill (IsAscending-sorted kept.nodes) in_order code_bytes in
       let n : ℕ = wrap (b + len) in
       let next : n < 2 ^ 32 = wrapped (b + len) s.low in
       let whole : List Item = items_of kept.edges b n y in
       let its : List Item = trimmed f.following whole in
-      let same : items decode_first x.loads kept.edges b f.following ≡ its = ap (λ d. trimmed f.following (items_for kept.edges b d)) s.spelled in
+      let same : items decode_first (code_in x.loads) kept.edges b f.following ≡ its = ap (λ d. trimmed f.following (items_for kept.edges b d)) s.spelled in
       let bytes : BytesAt new.mem (place b) (items_bytes at (place b) its) = subst (λ l. BytesAt new.mem (place b) (items_bytes at (place b) l)) same f.bytes in
-      let top : place b + 512 ≤ 0x70000000 = below (place b) a.stubs (length kept.nodes) a.stop (place_below decode_first x kept room b) (stubs_room decode_first x kept room) (stop_low decode_first x kept room plain) in
+      let top : place b + 512 ≤ 0x70000000 = below (place b) a.stubs (node_count kept) a.stop (place_below decode_first x kept room b) (stubs_room decode_first x kept room) (stop_low decode_first x kept room plain) in
       let few : items_len its ≤ 32 = at_most (items_len its) (items_len whole) (length-trimmed f.following whole) (length-items_of kept.edges b n y) in
       let spelled : AllSpelled at (place b) whole = spelled_items_of at (label_low decode_first x kept room plain) kept.edges b n _ b y s.spells (place b) (near (place b) top) next in
       let all : AllSpelled at (place b) its = spelled_trimmed at f.following (place b) whole spelled in
@@ -159,19 +163,20 @@ module _ (x : Image) (kept : Record) (parts : Parts) (entry : ℕ) (can : IsRewr
   each : (s t : Machine) → IsKept s.cpu.rip → Stand lay place x.loads new.mem s t → StepClear lay.added decode_first s → Follows decode_first kept.edges lay place (λ b. 3) s.cpu.rip (step decode_first s) t
   each s t node st clear =
       let b : ℕ = s.cpu.rip in
-      let nd = can.nodes b node in
-      let here : InsnAt decode_first x.loads b nd.insn (wrap (b + nd.len)) = record { len = nd.len; spelled = nd.spelled; ends = refl } in
-      let fragment = fragment_at b nd.insn nd.len node (stands x plain b nd.insn nd.len nd.spelled) in
+      let nd = can.stands.nodes b node in
+      let there = stands x plain b nd.insn nd.len nd.spelled in
+      let here : InsnAt decode_first x.loads b nd.insn (wrap (b + nd.len)) = record { len = nd.len; spelled = there.fetched; ends = refl } in
+      let fragment = fragment_at b nd.insn nd.len node there in
       fragment_follows decode_first kept.edges lay place (λ c. 3) (λ c. omega arith) x.loads new.mem b (wrap (b + nd.len)) nd.insn s t here fragment refl st clear
 
   -- a kept node's stub ends the run
-  stub_stops : (t : Machine) (b : ℕ) → IsKept b → t.end ≡ None → HasCode new.mem t.mem → t.cpu.rip ≡ lay.stub b → (step decode_first t).end ≡ Some (end.Illegal t.cpu.rip)
-  stub_stops t b node runs code there =
+  stub_stops : (t : Machine) (b : ℕ) → IsKept b → t.end ≡ None → HasCode new.mem t.mem → RangeStands lay.added new.mem t.mem → t.cpu.rip ≡ lay.stub b → StopsAtStub decode_first t
+  stub_stops t b node runs code range there =
       let p : ℕ = lay.stub b in
-      let fill : List ℕ = replicate (a.stop - a.stubs - length (all_stubs kept.nodes)) 0xcc in
-      let bytes : BytesAt new.mem a.stubs (all_stubs kept.nodes ++ fill) = subst (BytesAt new.mem a.stubs) are.parts_added.stubs stub_bytes in
+      let fill : List ℕ = replicate (a.stop - a.stubs - length (all_stubs (sorted kept.nodes))) 0xcc in
+      let bytes : BytesAt new.mem a.stubs (all_stubs (sorted kept.nodes) ++ fill) = subst (BytesAt new.mem a.stubs) are.parts_added.stubs stub_bytes in
       let low : p + 2 < 2 ^ 64 = far p (label_low decode_first x kept room plain (label.Stub b)) in
-      let stop : InsnAt decode_first new.mem p insn.Ud2 (p + 2) = insn_of_spelling new.mem p insn.Ud2 (stub_found new.mem a.stubs b kept.nodes fill node bytes) tt low in
+      let stop : InsnAt decode_first new.mem p insn.Ud2 (p + 2) = insn_of_spelling new.mem p insn.Ud2 (stub_found new.mem a.stubs b (sorted kept.nodes) fill (has_node-sorted kept.nodes b ∙ node) bytes) tt low in
       ap (λ u. u.end) (step_is decode_first new.mem p insn.Ud2 (p + 2) stop t runs there code ∙ halt_is insn.Ud2 (p + 2) t refl)
     where
       far : (p : ℕ) → p < 2 ^ 31 → p + 2 < 2 ^ 64
@@ -184,17 +189,17 @@ module _ (x : Image) (kept : Record) (parts : Parts) (entry : ℕ) (can : IsRewr
         old_runs = refl;
         new_runs = refl;
         there = are.begins;
-        same = record { regs = refl; flags = refl; world = refl; mem = alike };
+        same = record { regs = refl; flags = refl; world = same_world old.world; mem = alike };
         regs = first_regs-are input;
         old_code = old_code;
         new_code = new_code;
-        perms = record { at = λ b i. record { read = refl; write = refl; execute = refl } };
+        added = record { perms = λ b i. record { read = refl; write = refl; execute = refl }; bytes = λ b i w. refl };
       }
 
   -- the new file's run keeps the old one's
   pub keeps_written : KeepsRun decode_first kept.edges (layout_of decode_first x kept) (start x input) (start (new_image x parts entry) input)
-  keeps_written = keeps decode_first kept.edges lay place (λ b. 3) IsKept x.loads new.mem can.ends each stub_stops old new can.entry standing
+  keeps_written = keeps decode_first kept.edges lay place (λ b. 3) IsKept x.loads new.mem can.stands.ends each stub_stops old new can.entry_kept standing
 
   -- with one to three steps for each
   pub paced_written : Paced decode_first kept.edges (layout_of decode_first x kept) (λ b. 3) (start x input) (start (new_image x parts entry) input)
-  paced_written = paced decode_first kept.edges lay place (λ b. 3) IsKept x.loads new.mem can.ends each stub_stops old new can.entry standing
+  paced_written = paced decode_first kept.edges lay place (λ b. 3) IsKept x.loads new.mem can.stands.ends each stub_stops old new can.entry_kept standing

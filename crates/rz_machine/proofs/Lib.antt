@@ -4,6 +4,7 @@ pub mod ThinLaws
 pub mod WrittenLaws
 pub mod StepLaws
 pub mod CodeLaws
+pub mod NodeLaws
 pub mod OneForm
 pub mod RegLaws
 pub mod Outcomes

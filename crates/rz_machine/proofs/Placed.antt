@@ -8,7 +8,6 @@ use Rattle.rz_machine.specs.declared.items.Item.{Item}
 use Rattle.rz_machine.specs.declared.items.Item.TheVariants as item
 use Rattle.rz_image.specs.Memory.{Regions, cell_at, code_of, fetched, fetch, wrap}
 use Rattle.rz_machine.specs.Insn.{Decoder}
-use Rattle.rz_machine.specs.Nodes.{spelled_at}
 use Rattle.rz_machine.specs.First.{decode_first, spelling, spelling_len, HasSpelling}
 use Rattle.rz_machine.specs.Fragments.{item_len, items_len, resolved, items_bytes}
 use Rattle.rz_machine.specs.FirstLaws.{decode_spelling, length-spelling}
@@ -51,7 +50,7 @@ fetch_front m p (b ∷ bs) n h =
 -- an instruction stands at a place, and the next address is that place
 pub record InsnAt (dec : Decoder) (m : Regions) (p : ℕ) (x : Insn) (next : ℕ) : Type 0 where
   pub len : ℕ
-  pub spelled : spelled_at dec m p ≡ decoded.Insn x len
+  pub spelled : dec (fetch m p 15) p ≡ decoded.Insn x len
   pub ends : wrap (p + len) ≡ next
 
 -- instructions stand one after the other, from one place to another

@@ -4,39 +4,36 @@ use Rattle.std.proofs.lemmas.Bool.{or_left, or_right, cases_lt}
 use Rattle.rz_machine.specs.declared.machine.End.{End}
 use Rattle.rz_machine.specs.declared.machine.Machine.{Machine}
 use Rattle.rz_sys.specs.declared.input.Input.{Input}
-use Rattle.rz_machine.specs.declared.trace.Record.{Record}
-use Rattle.rz_image.specs.Memory.{Regions, NoSelfWritten}
+use Rattle.rz_machine.specs.Kept.{Kept}
+use Rattle.rz_image.specs.Memory.{Regions}
 use Rattle.rz_elf.specs.Elf.{Image}
 use Rattle.rz_machine.specs.Insn.{Decoder}
 use Rattle.rz_machine.specs.State.{step, after}
 use Rattle.rz_machine.specs.Start.{start}
-use Rattle.rz_machine.specs.Begun.{begun_at, begun, neighbours, with_nodes, with_edges, recorded}
-use Rattle.rz_machine.specs.Keeps.{Edges, has_edge, NoCut}
-use Rattle.rz_machine.specs.Rewritable.{has_node, IsRewritable}
+use Rattle.rz_machine.specs.Begun.{begun_at, begun, neighbours, recorded}
+use Rattle.rz_machine.specs.Kept.{with_nodes, with_edges, Edges, has_edge, has_node}
+use Rattle.rz_machine.specs.Keeps.{NoCut}
 use Rattle.rz_machine.specs.LeftCode.{left_at, StaysInCode}
 use Rattle.rz_machine.specs.Traced.{with_run}
-use Rattle.rz_machine.specs.Recorded.{StandsIn, IsUncut}
-use Rattle.rz_machine.proofs.SetLaws.{has_node-with_nodes, has_edge-with_edges, IsAscending-with_nodes}
+use Rattle.rz_machine.specs.Nodes.{Code, code_in, StandsIn}
+use Rattle.rz_machine.specs.Recorded.{IsUncut, StaysPlausible}
+use Rattle.rz_machine.proofs.SetLaws.{has_node-with_nodes, has_edge-with_edges}
 use Rattle.rz_machine.proofs.CodeLaws.{HasCode}
 use Rattle.rz_machine.proofs.StartCode.{start_code}
 use Rattle.rz_machine.proofs.TraceLaws.{IsDirect, Begins, begins, begins_or, step_ended, after_ended, begun_nodes, begun_direct, neighbours_in}
 
-pub nothing_stands : (dec : Decoder) (m : Regions) → StandsIn dec m (record { nodes = []; edges = [] })
-nothing_stands dec m = record { ascending = tt; nodes = λ a h. cc; sources = λ a b h. cc; ends = λ a b h. cc; direct = λ a b h site. cc }
-
-pub rewritable_stands : (dec : Decoder) (x : Image) (kept : Record) → IsRewritable dec x kept → StandsIn dec x.loads kept
-rewritable_stands dec x kept h = record { ascending = h.ascending; nodes = h.nodes; sources = h.sources; ends = h.ends; direct = h.direct }
+pub nothing_stands : (dec : Decoder) (code : Code) → StandsIn dec code (record { nodes = []; edges = [] })
+nothing_stands dec code = record { nodes = λ a h. cc; sources = λ a b h. cc; ends = λ a b h. cc; direct = λ a b h site. cc }
 
 either : {A : Type 0} (x y : Bool) → (x || y) ≡ true → (x ≡ true → A) → (y ≡ true → A) → A
 either true y e f g = f refl
 either false y e f g = g e
 
 -- a run added to what stands in the code stands there
-pub with_run_stands : (dec : Decoder) (m : Regions) (n : ℕ) (s : Machine) (kept : Record) → HasCode m s.mem → StandsIn dec m kept → StandsIn dec m (with_run dec n s kept)
+pub with_run_stands : (dec : Decoder) (m : Regions) (n : ℕ) (s : Machine) (kept : Kept) → HasCode m s.mem → StandsIn dec (code_in m) kept → StandsIn dec (code_in m) (with_run dec n s kept)
 unfolding with_run IsDirect
 with_run_stands dec m n s kept code h =
     record {
-      ascending = IsAscending-with_nodes kept.nodes list h.ascending;
       nodes = λ a e. node a e (h.nodes a) (begun_nodes dec m n s a code);
       sources = λ a b e. edge a b e (λ f. old a (h.sources a b f)) (λ f. new a (neighbours_in list a b f).0);
       ends = λ a b e. edge a b e (λ f. old b (h.ends a b f)) (λ f. new b (neighbours_in list a b f).1);
@@ -160,13 +157,13 @@ ended_no_cut dec n s edges why ended stays has m j lt cut = ⊎_elim inside past
         let goes = cut.leaves.runs in
         cc (over, goes, after_suc dec j s)
 
-pub with_run_has : (dec : Decoder) (n : ℕ) (s : Machine) (kept : Record) → HasRun dec n s (with_run dec n s kept).edges
+pub with_run_has : (dec : Decoder) (n : ℕ) (s : Machine) (kept : Kept) → HasRun dec n s (with_run dec n s kept).edges
 unfolding with_run
 with_run_has dec n s kept a b h =
     has_edge-with_edges kept.edges (neighbours (begun dec n s)) a b ∙ or_right (has_edge kept.edges a b) (has_edge (neighbours (begun dec n s)) a b) h
 
 -- so the record of a run that stays in the code has no cut for it
-pub with_run_uncut : (dec : Decoder) (n : ℕ) (s : Machine) (kept : Record) → StaysInCode dec n s → IsUncut dec (with_run dec n s kept).edges s n
+pub with_run_uncut : (dec : Decoder) (n : ℕ) (s : Machine) (kept : Kept) → StaysInCode dec n s → IsUncut dec (with_run dec n s kept).edges s n
 with_run_uncut dec n s kept stays =
     record { before = run_no_cut dec n s _ stays (with_run_has dec n s kept); ended = λ why e. ended_no_cut dec n s _ why e stays (with_run_has dec n s kept) }
 
@@ -178,36 +175,25 @@ recorded_run dec n s = refl
 -- no step of a recorded run before the last is its cut, and none at all where it ended
 pub recorded_no_cut : (dec : Decoder) (n : ℕ) (s : Machine) → StaysInCode dec n s → IsUncut dec (recorded dec n s).edges s n
 recorded_no_cut dec n s stays =
-    subst (λ (kept : Record). IsUncut dec kept.edges s n) (sym (recorded_run dec n s)) (with_run_uncut dec n s _ stays)
+    subst (λ (kept : Kept). IsUncut dec kept.edges s n) (sym (recorded_run dec n s)) (with_run_uncut dec n s _ stays)
 
--- a run added to what stands in the code can be rewritten
-pub with_run_rewritable : (dec : Decoder) (x : Image) (input : Input) (n : ℕ) (kept : Record) → 1 ≤ n → NoSelfWritten x.loads → StaysInCode dec n (start x input) → StandsIn dec x.loads kept → IsRewritable dec x (with_run dec n (start x input) kept)
+-- a run added to what stands in the code makes it plausible
+with_run_plausible : (dec : Decoder) (x : Image) (input : Input) (n : ℕ) (kept : Kept) → StaysInCode dec n (start x input) → StaysPlausible dec n x kept (with_run dec n (start x input) kept)
 unfolding with_run
-with_run_rewritable dec x input n kept some fixed stays old =
+with_run_plausible dec x input n kept stays some fixed old =
     let s = start x input in
-    let h = with_run_stands dec x.loads n s kept (start_code x input fixed) old in
     let first = begun_first dec n s some refl stays in
     record {
-      ascending = h.ascending;
-      entry = has_node-with_nodes kept.nodes (begun dec n s) x.entry ∙ or_right (has_node kept.nodes x.entry) (has_node (begun dec n s) x.entry) first;
-      nodes = h.nodes;
-      sources = h.sources;
-      ends = h.ends;
-      direct = h.direct;
+      stands = with_run_stands dec x.loads n s kept (start_code x input fixed) old;
+      entry_kept = has_node-with_nodes kept.nodes (begun dec n s) x.entry ∙ or_right (has_node kept.nodes x.entry) (has_node (begun dec n s) x.entry) first;
     }
 
--- what the first n steps of a run record can be rewritten, where they stay in the code
-pub recorded_rewritable : (dec : Decoder) (x : Image) (input : Input) (n : ℕ) → 1 ≤ n → NoSelfWritten x.loads → StaysInCode dec n (start x input) → IsRewritable dec x (recorded dec n (start x input))
-recorded_rewritable dec x input n some fixed stays =
-    subst (IsRewritable dec x) (sym (recorded_run dec n (start x input))) (with_run_rewritable dec x input n _ some fixed stays (nothing_stands dec x.loads))
-
 -- the same of a state and a record that a trace began and ended with
-pub traced_rewritable : (dec : Decoder) (x : Image) (input : Input) (n : ℕ) (s : Machine) (old new : Record) → s ≡ start x input → new ≡ with_run dec n s old → StaysInCode dec n s
-    → 1 ≤ n → NoSelfWritten x.loads → StandsIn dec x.loads old → IsRewritable dec x new
-traced_rewritable dec x input n s old new began added stays some fixed stands =
+pub traced_plausible : (dec : Decoder) (x : Image) (input : Input) (n : ℕ) (s : Machine) (old new : Kept) → s ≡ start x input → new ≡ with_run dec n s old → StaysInCode dec n s → StaysPlausible dec n x old new
+traced_plausible dec x input n s old new began added stays =
     let P : Machine → Type 0 = StaysInCode dec n in
-    subst (IsRewritable dec x) (sym (added ∙ ap (λ t. with_run dec n t old) began)) (with_run_rewritable dec x input n old some fixed (subst P began stays) stands)
+    subst (StaysPlausible dec n x old) (sym (added ∙ ap (λ t. with_run dec n t old) began)) (with_run_plausible dec x input n old (subst P began stays))
 
-pub traced_uncut : (dec : Decoder) (n : ℕ) (s t : Machine) (old new : Record) → s ≡ t → new ≡ with_run dec n s old → StaysInCode dec n s → IsUncut dec new.edges t n
+pub traced_uncut : (dec : Decoder) (n : ℕ) (s t : Machine) (old new : Kept) → s ≡ t → new ≡ with_run dec n s old → StaysInCode dec n s → IsUncut dec new.edges t n
 traced_uncut dec n s t old new began added stays =
-    subst (λ (u : Machine). IsUncut dec new.edges u n) began (subst (λ (kept : Record). IsUncut dec kept.edges s n) (sym added) (with_run_uncut dec n s old stays))
+    subst (λ (u : Machine). IsUncut dec new.edges u n) began (subst (λ (kept : Kept). IsUncut dec kept.edges s n) (sym added) (with_run_uncut dec n s old stays))

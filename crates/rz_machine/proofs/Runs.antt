@@ -2,16 +2,16 @@
 use Rattle.std.proofs.Common.{◌≡◌, ℕ, zero, suc, ◌+◌, ◌*◌, ◌<◌, ◌≤◌, ⊎_elim, Bool, true, false, if◌then◌else◌, Option, Some, None, refl, sym, ap, ◌∙◌, subst, subst₂, arith}
 use Rattle.std.proofs.lemmas.Bool.{cases_lt}
 use Rattle.rz_machine.specs.declared.machine.End.{End}
-use Rattle.rz_machine.specs.declared.machine.End.TheVariants as end
 use Rattle.rz_machine.specs.declared.machine.Machine.{Machine}
-use Rattle.rz_image.specs.Memory.{Regions, Range, PermsStand}
+use Rattle.rz_image.specs.Memory.{Regions, Range, RangeStands}
 use Rattle.rz_machine.specs.Insn.{Decoder}
 use Rattle.rz_machine.specs.State.{step, after, running}
 use Rattle.rz_machine.specs.Touches.{StepClear, RunClear}
 use Rattle.rz_machine.specs.Added.{Layout}
-use Rattle.rz_machine.specs.Keeps.{Same, Edges, has_edge, Leaves, IsCut, NoCut, AlikeEnds, KeepsRun}
+use Rattle.rz_machine.specs.Keeps.{Same, Leaves, IsCut, NoCut, AlikeEnds, StopsAtStub, KeepsRun}
+use Rattle.rz_machine.specs.Kept.{Edges, has_edge}
 use Rattle.rz_machine.specs.Pace.{IsMoment, Paced}
-use Rattle.rz_machine.proofs.CodeLaws.{HasCode, step_code, after_code, after_perms}
+use Rattle.rz_machine.proofs.CodeLaws.{HasCode, step_code, after_code, after_range}
 use Rattle.rz_machine.proofs.RegLaws.{AreRegs, step_regs}
 
 -- where the new run goes where the old one goes from a to b
@@ -34,7 +34,7 @@ pub record Stand (lay : Layout) (place : ℕ → ℕ) (xm wm : Regions) (s t : M
   pub regs : AreRegs s.cpu.regs
   pub old_code : HasCode xm s.mem
   pub new_code : HasCode wm t.mem
-  pub perms : PermsStand lay.added wm t.mem
+  pub added : RangeStands lay.added wm t.mem
 
 -- a run that has ended stays
 pub stays : (dec : Decoder) (s : Machine) (why : End) → s.end ≡ Some why → step dec s ≡ s
@@ -78,7 +78,7 @@ moment_most dec r bound b low x w (suc n) m h =
 module _ (dec : Decoder) (edges : Edges) (lay : Layout) (place bound : ℕ → ℕ) (IsNode : ℕ → Type 0) (xm wm : Regions)
     (ends_are_nodes : (a b : ℕ) → has_edge edges a b ≡ true → IsNode b)
     (each : (s t : Machine) → IsNode s.cpu.rip → Stand lay place xm wm s t → StepClear lay.added dec s → Follows dec edges lay place bound s.cpu.rip (step dec s) t)
-    (stub_stops : (t : Machine) (a : ℕ) → IsNode a → t.end ≡ None → HasCode wm t.mem → t.cpu.rip ≡ lay.stub a → (step dec t).end ≡ Some (end.Illegal t.cpu.rip))
+    (stub_stops : (t : Machine) (a : ℕ) → IsNode a → t.end ≡ None → HasCode wm t.mem → RangeStands lay.added wm t.mem → t.cpu.rip ≡ lay.stub a → StopsAtStub dec t)
     (x w : Machine) (begins : IsNode x.cpu.rip) (stands : Stand lay place xm wm x w) where
   -- after n steps along kept edges the old run stands at a node, and the new one at its place
   record Arrived (n : ℕ) : Type 0 where
@@ -112,7 +112,7 @@ module _ (dec : Decoder) (edges : Edges) (lay : Layout) (place bound : ℕ → �
             regs = step_regs dec s a.stand.regs;
             old_code = step_code xm dec s a.stand.old_code;
             new_code = after_code wm dec f.0 t a.stand.new_code;
-            perms = after_perms lay.added wm dec f.0 t a.stand.perms;
+            added = after_range lay.added wm dec f.0 t a.stand.added;
           } in
           let old : after dec (suc n) x ≡ step dec s = after-suc dec n x in
           let new : after dec (a.steps + f.0) w ≡ after dec f.0 t = after-+ dec a.steps f.0 w in
@@ -209,8 +209,8 @@ module _ (dec : Decoder) (edges : Edges) (lay : Layout) (place bound : ℕ → �
       cut : (j : ℕ) → RunClear lay.added dec x (suc j) → IsCut dec edges x j
           → (m : ℕ) × (j < m) × ((after dec m w).end ≡ None) × Same lay.added (after dec (suc j) x) (after dec m w)
           × ((after dec m w).cpu.rip ≡ lay.stub (after dec j x).cpu.rip)
-          × ((step dec (after dec m w)).end ≡ Some (end.Illegal (after dec m w).cpu.rip))
+          × StopsAtStub dec (after dec m w)
       cut j clear h =
           let p = paced.cut j clear h in
           let a = arrives j (λ i lt. clear i (omega arith)) (λ i lt c. h.first i lt c.leaves) (ran dec (after dec j x) h.leaves.runs) in
-          (p.0, moment_least dec lay.added bound x w (suc j) p.0 p.1, p.2, p.1.4, p.3, stub_stops (after dec p.0 w) (after dec j x).cpu.rip a.node p.2 (after_code wm dec p.0 w stands.new_code) p.3)
+          (p.0, moment_least dec lay.added bound x w (suc j) p.0 p.1, p.2, p.1.4, p.3, stub_stops (after dec p.0 w) (after dec j x).cpu.rip a.node p.2 (after_code wm dec p.0 w stands.new_code) (after_range lay.added wm dec p.0 w stands.added) p.3)

@@ -1,5 +1,6 @@
 -- What a set holds after more members are added.
-use Rattle.std.proofs.Common.{◌≡◌, ℕ, ◌<◌, Bool, true, false, cond, ◌&&◌, ◌||◌, nat_lt, ◌==◌, List, [], ◌∷◌, fold, refl, ap, ap₂, sym, ◌∙◌, subst, arith, eq-eqb, ltb-true}
+use Rattle.std.proofs.Common.{◌≡◌, ℕ, ◌<◌, Bool, true, false, cond, ◌&&◌, ◌||◌, nat_lt, ◌==◌, List, [], ◌∷◌, fold, refl, ap, ap₂, sym, ◌∙◌, subst, arith, eq-eqb, eqb-true, ltb-true, append_assoc, ◌++◌}
+use Rattle.std.proofs.lemmas.List.{append-nil}
 use Rattle.std.proofs.lemmas.Bool.{lt-ltb}
 use Rattle.std.specs.declared.cmp.Ordering.{Ordering}
 use Rattle.std.specs.declared.cmp.Ordering.TheVariants.{Less, Equal, Greater}
@@ -8,9 +9,7 @@ use Rattle.std.specs.List.{list_any, AllByRecursion}
 use Rattle.std.specs.List.Sorted.{IsStrictlySortedBy}
 use Rattle.std.specs.BTreeSet.{insert_key}
 use Rattle.std.proofs.lemmas.Map.Lookups.{CmpEqualImpliesEq, exact_unsigned}
-use Rattle.rz_machine.specs.Begun.{pair_cmp, with_nodes, with_edges}
-use Rattle.rz_machine.specs.Keeps.{Edges, has_edge}
-use Rattle.rz_machine.specs.Rewritable.{has_node, IsAscending}
+use Rattle.rz_machine.specs.Kept.{sorted, sorted_edges, pair_cmp, with_nodes, with_edges, Edges, has_edge, has_node, IsAscending}
 
 or_same : (x y : Bool) → (x || (x || y)) ≡ (x || y)
 or_same true y = refl
@@ -112,3 +111,49 @@ pub IsAscending-from_sorted : (set : List ℕ) → IsStrictlySortedBy nat_cmp se
 unfolding IsStrictlySortedBy
 IsAscending-from_sorted [] h = tt
 IsAscending-from_sorted (x ∷ xs) h = (all_below x xs h.0, IsAscending-from_sorted xs h.1)
+
+-- a sorted set has the same members
+pub has_node-sorted : (nodes : List ℕ) (a : ℕ) → has_node (sorted nodes) a ≡ has_node nodes a
+unfolding sorted
+has_node-sorted nodes a = has_node-with_nodes [] nodes a
+
+pub has_edge-sorted : (edges : Edges) (a b : ℕ) → has_edge (sorted_edges edges) a b ≡ has_edge edges a b
+unfolding sorted_edges
+has_edge-sorted edges a b = has_edge-with_edges [] edges a b
+
+-- in ascending order
+pub IsAscending-sorted : (nodes : List ℕ) → IsAscending (sorted nodes)
+unfolding sorted
+IsAscending-sorted nodes = IsAscending-with_nodes [] nodes tt
+
+-- an address above all members is added behind them
+insert_last : (set : List ℕ) (k : ℕ) → AllByRecursion (λ b. b < k) set → insert_key nat_cmp set k ≡ set ++ k ∷ []
+insert_last [] k h = refl
+insert_last (x ∷ xs) k h = go (nat_lt k x) (k == x) refl refl (insert_last xs k h.1)
+  where
+    go : (p q : Bool) → nat_lt k x ≡ p → (k == x) ≡ q → insert_key nat_cmp xs k ≡ xs ++ k ∷ []
+        → match_ordering (cond p Less (cond q Equal Greater)) (k ∷ x ∷ xs) (x ∷ xs) (x ∷ insert_key nat_cmp xs k) ≡ x ∷ (xs ++ k ∷ [])
+    go true q d e ih = absurd (let lt : k < x = ltb-true k x d in let gt = h.0 in omega (arith, gt))
+    go false true d e ih = absurd (let same : k ≡ x = eqb-true k x e in let gt = h.0 in omega (arith, gt, same))
+    go false false d e ih = ap (λ l. x ∷ l) ih
+
+-- each of the first members is below what comes behind them
+front_below : (set : List ℕ) (x : ℕ) (more : List ℕ) → IsAscending (set ++ x ∷ more) → AllByRecursion (λ b. b < x) set
+front_below [] x more h = tt
+front_below (y ∷ ys) x more h = (found ys h.0, front_below ys x more h.1)
+  where
+    found : (zs : List ℕ) → AllByRecursion (λ b. y < b) (zs ++ x ∷ more) → y < x
+    found [] k = k.0
+    found (z ∷ zs) k = found zs k.1
+
+-- so members that ascend behind a set are added in their order
+with_ascending : (set more : List ℕ) → IsAscending (set ++ more) → with_nodes set more ≡ set ++ more
+with_ascending set [] h = sym (append-nil set)
+with_ascending set (x ∷ xs) h =
+    let e : (set ++ x ∷ []) ++ xs ≡ set ++ x ∷ xs = append_assoc set (x ∷ []) xs in
+    ap (λ s. with_nodes s xs) (insert_last set x (front_below set x xs h)) ∙ with_ascending (set ++ x ∷ []) xs (subst IsAscending (sym e) h) ∙ e
+
+-- a set in ascending order is sorted
+pub sorted-ascending : (nodes : List ℕ) → IsAscending nodes → sorted nodes ≡ nodes
+unfolding sorted
+sorted-ascending nodes h = with_ascending [] nodes h

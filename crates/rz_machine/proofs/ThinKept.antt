@@ -3,17 +3,18 @@ use Rattle.std.proofs.Common.{◌≡◌, ℕ, suc, ◌+◌, ◌-◌, ◌<◌, �
 use Rattle.std.specs.List.{AllByRecursion}
 use Rattle.std.proofs.lemmas.Bool.{and_parts}
 use Rattle.rz_sys.specs.declared.input.Input.{Input}
-use Rattle.rz_machine.specs.declared.trace.Record.{Record}
+use Rattle.rz_machine.specs.Kept.{Kept, IsAscending, has_node, sorted, sorted_edges}
 use Rattle.rz_image.specs.Memory.{no_cell, contains, cell_in, cell_at}
 use Rattle.rz_machine.specs.First.{decode_first}
 use Rattle.rz_elf.specs.Elf.{Image, image_of, fault_of}
-use Rattle.rz_machine.specs.Added.{Added, added, layout_of, code_size, stubs_size}
+use Rattle.rz_machine.specs.Added.{Added, node_count, added, layout_of, code_size, stubs_size}
 use Rattle.rz_machine.specs.WrittenFile.{Parts, IsAdded, new_image, written_file}
 use Rattle.rz_sys.specs.Input.{IsValid}
 use Rattle.rz_machine.specs.Start.{start}
 use Rattle.rz_machine.specs.Thin.{IsThin, thin_base, thin_file}
 use Rattle.rz_machine.specs.Keeps.{KeepsRun}
-use Rattle.rz_machine.specs.Rewritable.{IsRewritable, IsAscending, has_node}
+use Rattle.rz_machine.specs.Nodes.{code_in, IsPlausible}
+use Rattle.rz_machine.proofs.SetLaws.{has_node-sorted, IsAscending-sorted}
 use Rattle.rz_elf.specs.PlainImage.{IsPlainImage}
 use Rattle.rz_machine.specs.Rewritten.{HasRoom, ThinFilesKept, ThinFilesHaveRoom}
 use Rattle.rz_machine.proofs.PlainNodes.{stands}
@@ -61,17 +62,17 @@ executed_in_code code b e = go (contains (code_region code) b) refl e
         (leb-true thin_base b p.0, ltb-true b (thin_base + length code) p.1)
     go false f e = absurd (cc)
 
-module _ (code : List ℕ) (some : 1 ≤ length code) (few : length code ≤ 65536) (plain : IsPlainImage (code_image code)) (kept : Record) (can : IsRewritable decode_first (code_image code) kept) where
-  nodes_few : length kept.nodes ≤ 65536
+module _ (code : List ℕ) (some : 1 ≤ length code) (few : length code ≤ 65536) (plain : IsPlainImage (code_image code)) (kept : Kept) (can : IsPlausible decode_first (code_in (code_image code).loads) (code_image code).entry kept) where
+  nodes_few : node_count kept ≤ 65536
   nodes_few =
-      let inside : AllByRecursion (λ b. (thin_base ≤ b) × (b < thin_base + length code)) kept.nodes =
-      all_members (λ b. (thin_base ≤ b) × (b < thin_base + length code)) kept.nodes
-      (λ b e. let n = can.nodes b e in executed_in_code code b (stands (code_image code) plain b n.insn n.len n.spelled).first) in
-      omega (arith, few_ascending thin_base (thin_base + length code) kept.nodes can.ascending inside)
+      let inside : AllByRecursion (λ b. (thin_base ≤ b) × (b < thin_base + length code)) (sorted kept.nodes) =
+      all_members (λ b. (thin_base ≤ b) × (b < thin_base + length code)) (sorted kept.nodes)
+      (λ b e. let n = can.stands.nodes b (sym (has_node-sorted kept.nodes b) ∙ e) in executed_in_code code b (stands (code_image code) plain b n.insn n.len n.spelled).first) in
+      omega (arith, few_ascending thin_base (thin_base + length code) (sorted kept.nodes) (IsAscending-sorted kept.nodes) inside)
 
   -- the entry is a kept node
-  nodes_some : 1 ≤ length kept.nodes
-  nodes_some = go kept.nodes can.entry
+  nodes_some : 1 ≤ node_count kept
+  nodes_some = go (sorted kept.nodes) (has_node-sorted kept.nodes thin_base ∙ can.entry_kept)
     where
       go : (nodes : List ℕ) → has_node nodes thin_base ≡ true → 1 ≤ length nodes
       go [] e = absurd (cc)
@@ -80,8 +81,8 @@ module _ (code : List ℕ) (some : 1 ≤ length code) (few : length code ≤ 655
   -- the parts of so few nodes fit below the code
   room : HasRoom decode_first (code_image code) kept
   room =
-      rw (sites-first (code_region code ∷ []) kept.nodes, site_edges-first (code_region code ∷ []) kept.edges)
-      (fits (length kept.nodes) nodes_few)
+      rw (sites-first (code_in (code_region code ∷ [])) (sorted kept.nodes), site_edges-first (code_in (code_region code ∷ [])) (sorted_edges kept.edges))
+      (fits (node_count kept) nodes_few)
     where
       fits : (n : ℕ) → n ≤ 65536 → 4096 + 4096 + code_size n 0 0 + stubs_size n ≤ 0x401000
       fits n h = omega arith
@@ -98,24 +99,27 @@ thin_room x kept thin bytes can = subst P (sym thin.file) of_code (thin_plain x 
     code = thin.code
 
     Holds : Image → Type 0
-    Holds i = (1 ≤ length kept.nodes) × (length kept.nodes ≤ 65536) × HasRoom decode_first i kept
+    Holds i = (1 ≤ node_count kept) × (node_count kept ≤ 65536) × HasRoom decode_first i kept
+
+    Can : Image → Type 0
+    Can i = IsPlausible decode_first (code_in i.loads) i.entry kept
 
     P : List ℕ → Type 0
-    P y = IsPlainImage (image_of y) → IsRewritable decode_first (image_of y) kept → Holds (image_of y)
+    P y = IsPlainImage (image_of y) → Can (image_of y) → Holds (image_of y)
 
     of_code : P (thin_file code)
     of_code h c =
         let e : image_of (thin_file code) ≡ code_image code = thin_image code thin.some thin.few in
         let plain : IsPlainImage (code_image code) = subst IsPlainImage e h in
-        let d : IsRewritable decode_first (code_image code) kept = subst (λ i. IsRewritable decode_first i kept) e c in
+        let d : Can (code_image code) = subst Can e c in
         let holds : Holds (code_image code) = (nodes_some code thin.some thin.few plain kept d, nodes_few code thin.some thin.few plain kept d, room code thin.some thin.few plain kept d) in
         subst Holds (sym e) holds
 
 -- what is loaded of the file that is written for a thin file
-thin_written_image : (x w : List ℕ) (kept : Record) (p : Parts) (entry : ℕ) → IsThin x → 1 ≤ length kept.nodes → length kept.nodes ≤ 65536 → IsAdded (added decode_first (image_of x) kept) kept.nodes p entry → w ≡ written_file x p entry → image_of w ≡ new_image (image_of x) p entry
+thin_written_image : (x w : List ℕ) (kept : Kept) (p : Parts) (entry : ℕ) → IsThin x → 1 ≤ node_count kept → node_count kept ≤ 65536 → IsAdded (added decode_first (image_of x) kept) (sorted kept.nodes) p entry → w ≡ written_file x p entry → image_of w ≡ new_image (image_of x) p entry
 thin_written_image x w kept p entry thin some few h written =
-    let at : added decode_first (image_of x) kept ≡ thin_added (length kept.nodes) = ap (λ (y : List ℕ). added decode_first (image_of y) kept) thin.file ∙ added-thin thin.code kept thin.some thin.few in
-    let fit : PartsFit p entry = parts_fit kept.nodes p entry some few (subst (λ (b : Added). IsAdded b kept.nodes p entry) at h) in
+    let at : added decode_first (image_of x) kept ≡ thin_added (node_count kept) = ap (λ (y : List ℕ). added decode_first (image_of y) kept) thin.file ∙ added-thin thin.code kept thin.some thin.few in
+    let fit : PartsFit p entry = parts_fit (sorted kept.nodes) p entry some few (subst (λ (b : Added). IsAdded b (sorted kept.nodes) p entry) at h) in
     let file : w ≡ written_file (thin_file thin.code) p entry = written ∙ ap (λ (y : List ℕ). written_file y p entry) thin.file in
     ap image_of file ∙ written_image thin.code p entry thin.some thin.few fit ∙ ap (λ (y : List ℕ). new_image (image_of y) p entry) (sym thin.file)
 
@@ -123,7 +127,7 @@ thin_written_image x w kept p entry thin some few h written =
 pub thin_kept : ThinFilesKept decode_first
 thin_kept x w kept parts entry thin bytes can are written = (keeps, inert_of x w kept parts entry thin r.0 r.1 are.parts_added written)
   where
-    r : (1 ≤ length kept.nodes) × (length kept.nodes ≤ 65536) × HasRoom decode_first (image_of x) kept
+    r : (1 ≤ node_count kept) × (node_count kept ≤ 65536) × HasRoom decode_first (image_of x) kept
     r = thin_room x kept thin bytes can
 
     keeps : (input : Input) → IsValid input → KeepsRun decode_first kept.edges (layout_of decode_first (image_of x) kept) (start (image_of x) input) (start (image_of w) input)

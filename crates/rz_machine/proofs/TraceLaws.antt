@@ -15,12 +15,12 @@ use Rattle.rz_machine.specs.Effect.{Done, Went, Stopped, plain_effect, plainly, 
 use Rattle.rz_sys.specs.Answer.{Called}
 use Rattle.rz_machine.specs.State.{step, after, act, perform, perform_by, perform_effect, running, after_done, after_exit, onward, decoded_at}
 use Rattle.rz_machine.specs.Begun.{begun_by, begun_at, begun, neighbours}
-use Rattle.rz_machine.specs.Nodes.{IsNode, spelled_at, is_site_at, direct_at}
-use Rattle.rz_machine.specs.Keeps.{has_edge}
-use Rattle.rz_machine.specs.Rewritable.{has_node}
+use Rattle.rz_machine.specs.Nodes.{Code, code_in, IsNode, spelled_at, is_site_at, direct_at}
+use Rattle.rz_machine.specs.Kept.{has_edge, has_node}
 use Rattle.rz_machine.specs.LeftCode.{left_at}
 use Rattle.rz_machine.proofs.Outcomes.{OutcomeHas, DoneHas, carry_has}
 use Rattle.rz_machine.proofs.CodeLaws.{HasCode, fetch_same, step_code}
+use Rattle.rz_machine.proofs.NodeLaws.{spelled_at-code_in}
 
 -- the ends of an instruction are not Fetch and Unknown
 abbrev Stays : End → Type 0
@@ -159,12 +159,14 @@ or_true true y e = inl refl
 or_true false y e = inr e
 
 -- what begins at a state stands in the code that the state has
-begins_node : (dec : Decoder) (m : Regions) (s : Machine) → HasCode m s.mem → Begins dec s → IsNode dec m s.cpu.rip
-begins_node dec m s code b =
-    record { insn = b.insn; len = b.len; spelled = ap (λ bs. dec bs s.cpu.rip) (fetch_same m s.mem s.cpu.rip 15 code.same) ∙ b.spelled }
+begins_spelled : (dec : Decoder) (m : Regions) (s : Machine) → HasCode m s.mem → (b : Begins dec s) → spelled_at dec (code_in m) s.cpu.rip ≡ decoded.Insn b.insn b.len
+begins_spelled dec m s code b = spelled_at-code_in dec m s.cpu.rip ∙ ap (λ bs. dec bs s.cpu.rip) (fetch_same m s.mem s.cpu.rip 15 code.same) ∙ b.spelled
+
+begins_node : (dec : Decoder) (m : Regions) (s : Machine) → HasCode m s.mem → Begins dec s → IsNode dec (code_in m) s.cpu.rip
+begins_node dec m s code b = record { insn = b.insn; len = b.len; spelled = begins_spelled dec m s code b }
 
 -- each instruction that is begun stands in the file
-pub begun_nodes : (dec : Decoder) (m : Regions) (n : ℕ) (s : Machine) (a : ℕ) → HasCode m s.mem → has_node (begun dec n s) a ≡ true → IsNode dec m a
+pub begun_nodes : (dec : Decoder) (m : Regions) (n : ℕ) (s : Machine) (a : ℕ) → HasCode m s.mem → has_node (begun dec n s) a ≡ true → IsNode dec (code_in m) a
 unfolding begun
 begun_nodes dec m zero s a code h = cc
 begun_nodes dec m (suc n) s a code h = go (begins_or dec s) (begun_nodes dec m n (step dec s) a (step_code m dec s code))
@@ -175,10 +177,10 @@ begun_nodes dec m (suc n) s a code h = go (begins_or dec s) (begun_nodes dec m n
     at : (l : List ℕ) → begun_at dec s ≡ l → has_node (l ++ rest) a ≡ true
     at l e = subst (λ k. has_node (k ++ rest) a ≡ true) e h
 
-    go : (begun_at dec s ≡ []) ⊎ Begins dec s → (has_node rest a ≡ true → IsNode dec m a) → IsNode dec m a
+    go : (begun_at dec s ≡ []) ⊎ Begins dec s → (has_node rest a ≡ true → IsNode dec (code_in m) a) → IsNode dec (code_in m) a
     go (inl e) ih = ih (at [] e)
     go (inr b) ih =
-        ⊎_elim (λ k. subst (IsNode dec m) (eqb-true s.cpu.rip a k) (begins_node dec m s code b)) ih (or_true (s.cpu.rip == a) (has_node rest a) (at (s.cpu.rip ∷ []) b.at))
+        ⊎_elim (λ k. subst (IsNode dec (code_in m)) (eqb-true s.cpu.rip a k) (begins_node dec m s code b)) ih (or_true (s.cpu.rip == a) (has_node rest a) (at (s.cpu.rip ∷ []) b.at))
 
 -- both ends of a pair of neighbours are in the list
 pub neighbours_in : (l : List ℕ) (a b : ℕ) → has_edge (neighbours l) a b ≡ true → (has_node l a ≡ true) × (has_node l b ≡ true)
@@ -224,22 +226,22 @@ leads_direct x next s e = go (way_of x) e
     go Halts k = cc
 
 -- where a node isn't a return or an indirect transfer, an edge that leaves it is to a static successor
-unfoldable pub IsDirect : Decoder → Regions → ℕ → ℕ → Type 0
-IsDirect dec m a b = is_site_at dec m a ≡ false → has_node (direct_at dec m a) b ≡ true
+unfoldable pub IsDirect : Decoder → Code → ℕ → ℕ → Type 0
+IsDirect dec code a b = is_site_at dec code a ≡ false → has_node (direct_at dec code a) b ≡ true
 
 -- a running step leads from its node by such an edge
-step_direct : (dec : Decoder) (m : Regions) (s : Machine) → HasCode m s.mem → Begins dec s → (step dec s).end ≡ None → IsDirect dec m s.cpu.rip (step dec s).cpu.rip
+step_direct : (dec : Decoder) (m : Regions) (s : Machine) → HasCode m s.mem → Begins dec s → (step dec s).end ≡ None → IsDirect dec (code_in m) s.cpu.rip (step dec s).cpu.rip
 unfolding IsDirect
 step_direct dec m s code b e =
-    let same : spelled_at dec m s.cpu.rip ≡ decoded.Insn b.insn b.len = ap (λ bs. dec bs s.cpu.rip) (fetch_same m s.mem s.cpu.rip 15 code.same) ∙ b.spelled in
+    let same : spelled_at dec (code_in m) s.cpu.rip ≡ decoded.Insn b.insn b.len = begins_spelled dec m s code b in
     let stepped : step dec s ≡ perform b.insn (wrap (s.cpu.rip + b.len)) s = step_running dec s b.running ∙ ap (λ d. act d s) b.spelled in
-    let P : Decoded → ℕ → Type 0 = λ d to. is_site_at (λ bs at. d) m s.cpu.rip ≡ false → has_node (direct_at (λ bs at. d) m s.cpu.rip) to ≡ true in
+    let P : Decoded → ℕ → Type 0 = λ d to. is_site_at (λ bs at. d) (code_in m) s.cpu.rip ≡ false → has_node (direct_at (λ bs at. d) (code_in m) s.cpu.rip) to ≡ true in
     let there : P (decoded.Insn b.insn b.len) (perform b.insn (wrap (s.cpu.rip + b.len)) s).cpu.rip =
     λ site. leads_direct b.insn (wrap (s.cpu.rip + b.len)) s (ap (λ t. t.end) (sym stepped) ∙ e) in
     subst (λ d. P d (step dec s).cpu.rip) (sym same) (subst (λ t. P (decoded.Insn b.insn b.len) t.cpu.rip) (sym stepped) there)
 
 -- each edge of a run that leaves no site is to a static successor
-pub begun_direct : (dec : Decoder) (m : Regions) (n : ℕ) (s : Machine) (a b : ℕ) → HasCode m s.mem → has_edge (neighbours (begun dec n s)) a b ≡ true → IsDirect dec m a b
+pub begun_direct : (dec : Decoder) (m : Regions) (n : ℕ) (s : Machine) (a b : ℕ) → HasCode m s.mem → has_edge (neighbours (begun dec n s)) a b ≡ true → IsDirect dec (code_in m) a b
 unfolding begun
 begun_direct dec m zero s a b code h = cc
 begun_direct dec m (suc n) s a b code h = go (begins_or dec s) (begun_head dec n (step dec s)) (begun_direct dec m n (step dec s) a b (step_code m dec s code))
@@ -250,7 +252,7 @@ begun_direct dec m (suc n) s a b code h = go (begins_or dec s) (begun_head dec n
     edge : (l k : List ℕ) → begun_at dec s ≡ l → rest ≡ k → has_edge (neighbours (l ++ k)) a b ≡ true
     edge l k e f = subst (λ k. has_edge (neighbours (l ++ k)) a b ≡ true) f (subst (λ l. has_edge (neighbours (l ++ rest)) a b ≡ true) e h)
 
-    go : (begun_at dec s ≡ []) ⊎ Begins dec s → (rest ≡ []) ⊎ (Begins dec (step dec s) × ((more : List ℕ) × (rest ≡ (step dec s).cpu.rip ∷ more))) → (has_edge (neighbours rest) a b ≡ true → IsDirect dec m a b) → IsDirect dec m a b
+    go : (begun_at dec s ≡ []) ⊎ Begins dec s → (rest ≡ []) ⊎ (Begins dec (step dec s) × ((more : List ℕ) × (rest ≡ (step dec s).cpu.rip ∷ more))) → (has_edge (neighbours rest) a b ≡ true → IsDirect dec (code_in m) a b) → IsDirect dec (code_in m) a b
     go (inl e) head ih = ih (edge [] rest e refl)
     go (inr at) (inl none) ih = let f = edge (s.cpu.rip ∷ []) [] at.at none in cc
     go (inr at) (inr (next, (more, is))) ih =
@@ -259,6 +261,6 @@ begun_direct dec m (suc n) s a b code h = go (begins_or dec s) (begun_head dec n
         let found = edge (here ∷ []) (there ∷ more) at.at is in
         ⊎_elim
         (λ e. let p = and_parts (here == a) (there == b) e in
-        subst (λ c. IsDirect dec m c b) (eqb-true here a p.0) (subst (λ c. IsDirect dec m here c) (eqb-true there b p.1) (step_direct dec m s code at next.running)))
+        subst (λ c. IsDirect dec (code_in m) c b) (eqb-true here a p.0) (subst (λ c. IsDirect dec (code_in m) here c) (eqb-true there b p.1) (step_direct dec m s code at next.running)))
         (λ e. ih (subst (λ k. has_edge (neighbours k) a b ≡ true) (sym is) e))
         (or_true (here == a && there == b) (has_edge (neighbours (there ∷ more)) a b) found)

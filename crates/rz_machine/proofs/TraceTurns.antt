@@ -7,12 +7,13 @@ use Rattle.std.specs.Ordering.{nat_cmp}
 use Rattle.std.specs.BTreeSet.{insert_key}
 use Rattle.rz_machine.specs.declared.machine.End.{End}
 use Rattle.rz_machine.specs.declared.machine.Machine.{Machine}
-use Rattle.rz_machine.specs.declared.trace.Record.{Record}
+use Rattle.rz_machine.specs.Kept.{Kept}
 use Rattle.rz_machine.specs.declared.trace.TraceRefusal.{TraceRefusal}
 use Rattle.rz_machine.specs.declared.trace.TraceRefusal.TheVariants as refusal
 use Rattle.rz_machine.specs.Insn.{Decoder}
 use Rattle.rz_machine.specs.State.{step, after, decoded_at}
-use Rattle.rz_machine.specs.Begun.{begun_by, begun_at, begun, neighbours, pair_cmp, with_nodes, with_edges}
+use Rattle.rz_machine.specs.Begun.{begun_by, begun_at, begun, neighbours}
+use Rattle.rz_machine.specs.Kept.{pair_cmp, with_nodes, with_edges}
 use Rattle.rz_machine.specs.LeftCode.{left_at, LeavesCode, StaysInCode}
 use Rattle.rz_machine.specs.Traced.{with_run, HasPart, IsRefused, edge_from, with_begun}
 use Rattle.rz_machine.proofs.TraceLaws.{begins, begins_nothing, begun_none}
@@ -48,11 +49,11 @@ begun_stops dec (suc i) zero s le h = absurd (omega arith)
 begun_stops dec (suc i) (suc n) s le h = ap (λ l. begun_at dec s ++ l) (begun_stops dec i n (step dec s) (omega arith) h)
 
 -- a run added to a record, when the next step begins nothing
-pub run_stops : (dec : Decoder) (i n : ℕ) (s : Machine) (kept : Record) → i ≤ n → begun_at dec (after dec i s) ≡ [] → with_run dec n s kept ≡ with_run dec i s kept
+pub run_stops : (dec : Decoder) (i n : ℕ) (s : Machine) (kept : Kept) → i ≤ n → begun_at dec (after dec i s) ≡ [] → with_run dec n s kept ≡ with_run dec i s kept
 unfolding with_run
 run_stops dec i n s kept le h = ap (λ l. record { nodes = with_nodes kept.nodes l; edges = with_edges kept.edges (neighbours l) }) (begun_stops dec i n s le h)
 
-with_run_turn : (dec : Decoder) (i : ℕ) (s : Machine) (kept : Record) (at : ℕ) → begun_at dec (after dec i s) ≡ at ∷ [] → with_begun (with_run dec i s kept) (last_of (begun dec i s)) at ≡ with_run dec (suc i) s kept
+with_run_turn : (dec : Decoder) (i : ℕ) (s : Machine) (kept : Kept) (at : ℕ) → begun_at dec (after dec i s) ≡ at ∷ [] → with_begun (with_run dec i s kept) (last_of (begun dec i s)) at ≡ with_run dec (suc i) s kept
 unfolding with_run
 with_run_turn dec i s kept at h =
     let list = begun dec i s in
@@ -60,11 +61,11 @@ with_run_turn dec i s kept at h =
     let nodes : with_nodes kept.nodes (list ++ at ∷ []) ≡ insert_key nat_cmp (with_nodes kept.nodes list) at = fold-append (insert_key nat_cmp) kept.nodes list (at ∷ []) in
     let edges : with_edges kept.edges (neighbours (list ++ at ∷ [])) ≡ with_edges (with_edges kept.edges (neighbours list)) (edge_from (last_of list) at) =
     ap (with_edges kept.edges) (neighbours-push list at) ∙ fold-append (insert_key pair_cmp) kept.edges (neighbours list) (edge_from (last_of list) at) in
-    let P : List ℕ → Record = λ l. record { nodes = with_nodes kept.nodes l; edges = with_edges kept.edges (neighbours l) } in
-    ap₂ (λ (ns : List ℕ) (es : List (ℕ × ℕ)). let r : Record = record { nodes = ns; edges = es } in r) (sym nodes) (sym edges) ∙ ap P (sym more)
+    let P : List ℕ → Kept = λ l. record { nodes = with_nodes kept.nodes l; edges = with_edges kept.edges (neighbours l) } in
+    ap₂ (λ (ns : List ℕ) (es : List (ℕ × ℕ)). let r : Kept = record { nodes = ns; edges = es } in r) (sym nodes) (sym edges) ∙ ap P (sym more)
 
 -- a machine, a record and the last instruction begun after i steps of a run that hasn't left the code
-pub record Followed (dec : Decoder) (i : ℕ) (s : Machine) (old : Record) (now : Machine) (kept : Record) (last : Option ℕ) : Type 0 where
+pub record Followed (dec : Decoder) (i : ℕ) (s : Machine) (old : Kept) (now : Machine) (kept : Kept) (last : Option ℕ) : Type 0 where
   pub at : now ≡ after dec i s
   pub stays : left_at now.end ≡ None
   pub holds : kept ≡ with_run dec i s old
@@ -82,21 +83,21 @@ left_end : (o : Option End) (a : ℕ) → left_at o ≡ Some a → (why : End) �
 left_end None a h = cc
 left_end (Some why) a h = (why, refl)
 
-pub Followed-start : (dec : Decoder) (s : Machine) (old : Record) → left_at s.end ≡ None → Followed dec 0 s old s old None
+pub Followed-start : (dec : Decoder) (s : Machine) (old : Kept) → left_at s.end ≡ None → Followed dec 0 s old s old None
 unfolding after with_run begun
 Followed-start dec s old h = record { at = refl; stays = h; holds = refl; before = refl }
 
 -- want of memory refuses with a part of the run
-pub no_memory : {A : Type 0} (dec : Decoder) (n : ℕ) (s : Machine) (old new : Record) (r : Result A TraceRefusal) → IsErrAnd r (λ e. e ≡ refusal.OutOfMemory) → HasPart dec n s old new → IfErr r (IsRefused dec n s old new)
+pub no_memory : {A : Type 0} (dec : Decoder) (n : ℕ) (s : Machine) (old new : Kept) (r : Result A TraceRefusal) → IsErrAnd r (λ e. e ≡ refusal.OutOfMemory) → HasPart dec n s old new → IfErr r (IsRefused dec n s old new)
 no_memory dec n s old new (Ok a) h part = tt
 no_memory dec n s old new (Err e) h part = subst (IsRefused dec n s old new) (sym h) part
 
 -- where there is no memory for the start
-pub HasPart-nothing : (dec : Decoder) (n : ℕ) (s : Machine) (old : Record) → HasPart dec n s old old
+pub HasPart-nothing : (dec : Decoder) (n : ℕ) (s : Machine) (old : Kept) → HasPart dec n s old old
 unfolding begun
 HasPart-nothing dec n s old = record { node_steps = 0; edge_steps = 0; few = (omega arith, omega arith); nodes = refl; edges = refl }
 
-module _ (dec : Decoder) (i : ℕ) (s : Machine) (old : Record) (now : Machine) (kept : Record) (last : Option ℕ) (f : Followed dec i s old now kept last) where
+module _ (dec : Decoder) (i : ℕ) (s : Machine) (old : Kept) (now : Machine) (kept : Kept) (last : Option ℕ) (f : Followed dec i s old now kept last) where
   -- after all steps
   pub Followed-all : StaysInCode dec i s × (kept ≡ with_run dec i s old)
   Followed-all = (ap (λ t. left_at t.end) (sym f.at) ∙ f.stays, f.holds)
@@ -111,7 +112,7 @@ module _ (dec : Decoder) (i : ℕ) (s : Machine) (old : Record) (now : Machine) 
       (ap left_at (ended_later dec i n s why le ended ∙ sym found.1) ∙ f.stays, f.holds ∙ sym (run_stops dec i n s old le nothing))
 
   -- where there is no memory
-  pub Followed-part : (n : ℕ) (new : Record) → i ≤ n → new.nodes ≡ kept.nodes → new.edges ≡ kept.edges → HasPart dec n s old new
+  pub Followed-part : (n : ℕ) (new : Kept) → i ≤ n → new.nodes ≡ kept.nodes → new.edges ≡ kept.edges → HasPart dec n s old new
   unfolding with_run
   Followed-part n new le nodes edges =
       record { node_steps = i; edge_steps = i; few = (le, le); nodes = nodes ∙ ap (λ r. r.nodes) f.holds; edges = edges ∙ ap (λ r. r.edges) f.holds }
@@ -137,7 +138,7 @@ module _ (dec : Decoder) (i : ℕ) (s : Machine) (old : Record) (now : Machine) 
       holds_more = ap₂ (λ r l. with_begun r l now.cpu.rip) f.holds f.before ∙ with_run_turn dec i s old now.cpu.rip begun_here
 
       -- where the next step begins an instruction
-      pub Followed-turn : (new : Record) → new ≡ with_begun kept last now.cpu.rip → Followed dec (i + 1) s old next new (Some now.cpu.rip)
+      pub Followed-turn : (new : Kept) → new ≡ with_begun kept last now.cpu.rip → Followed dec (i + 1) s old next new (Some now.cpu.rip)
       Followed-turn new added =
           rw add-one (record {
             at = next_is;
@@ -147,7 +148,7 @@ module _ (dec : Decoder) (i : ℕ) (s : Machine) (old : Record) (now : Machine) 
           })
 
       -- where there is memory for its node, but not for its edge
-      pub Followed-node : (n : ℕ) (new : Record) → i < n → new.nodes ≡ insert_key nat_cmp kept.nodes now.cpu.rip → new.edges ≡ kept.edges → HasPart dec n s old new
+      pub Followed-node : (n : ℕ) (new : Kept) → i < n → new.nodes ≡ insert_key nat_cmp kept.nodes now.cpu.rip → new.edges ≡ kept.edges → HasPart dec n s old new
       unfolding with_run
       Followed-node n new lt nodes edges =
           record { node_steps = suc i; edge_steps = i; few = (omega arith, omega arith); nodes = nodes ∙ ap (λ r. r.nodes) holds_more; edges = edges ∙ ap (λ r. r.edges) f.holds }

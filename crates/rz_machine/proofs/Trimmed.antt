@@ -11,7 +11,7 @@ use Rattle.rz_machine.specs.Insn.{Decoder, Way, Onward, Jumps, Branches, Calls, 
 use Rattle.rz_machine.specs.First.{mov_number, Spells, spelling_len, HasSpelling}
 use Rattle.rz_machine.specs.FirstLaws.{spelled_anywhere}
 use Rattle.rz_machine.specs.Added.{Layout}
-use Rattle.rz_machine.specs.Keeps.{Edges, has_edge}
+use Rattle.rz_machine.specs.Kept.{Edges, has_edge}
 use Rattle.rz_machine.specs.Fragments.{to_label, jump_to, items_by, items_of, is_following, is_needless, trimmed, item_len, items_len, resolved}
 use Rattle.rz_machine.proofs.Runs.{dest}
 use Rattle.rz_machine.proofs.Placed.{InsnAt, InsnsAt, AllSpelled, short_spelling}

@@ -1,19 +1,19 @@
 -- The added range: four parts below the lowest load, and what stands in the stubs.
 use Rattle.std.specs.Prelude.{ℕ, ◌+◌, ◌-◌, ◌*◌, ◌%◌, if◌then◌else◌, ◌==◌, List, [], ◌∷◌, ◌++◌, length, filter, flat_map, min, replicate}
 use Rattle.byteorder.specs.Endian.{little_bytes}
-use Rattle.rz_machine.specs.declared.trace.Record.{Record}
 use Rattle.rz_image.specs.Memory.{Regions, Range}
 use Rattle.rz_num.specs.Page.{page_up}
 use Rattle.rz_elf.specs.Elf.{Image}
 use Rattle.rz_machine.specs.Insn.{Decoder}
-use Rattle.rz_machine.specs.Nodes.{is_site_at}
+use Rattle.rz_machine.specs.Kept.{Edges, Kept, sorted, sorted_edges}
+use Rattle.rz_machine.specs.Nodes.{Code, code_in, is_site_at}
 
 -- the kept returns and indirect transfers, and the kept edges that leave them
-abbrev pub sites : Decoder → Regions → List ℕ → List ℕ
-sites dec m nodes = filter (is_site_at dec m) nodes
+abbrev pub sites : Decoder → Code → List ℕ → List ℕ
+sites dec code nodes = filter (is_site_at dec code) nodes
 
-abbrev pub site_edges : Decoder → Regions → List (ℕ × ℕ) → List (ℕ × ℕ)
-site_edges dec m edges = filter (λ e. is_site_at dec m e.0) edges
+abbrev pub site_edges : Decoder → Code → Edges → Edges
+site_edges dec code edges = filter (λ e. is_site_at dec code e.0) edges
 
 -- the sizes of the parts, in bytes
 abbrev pub scratch_size : ℕ
@@ -53,11 +53,21 @@ parts_below tables_len code_len stubs_len stop =
     let tables = code - tables_len in
     record { scratch = tables - scratch_size; tables = tables; code = code; stubs = stubs; stop = stop }
 
-abbrev pub added : Decoder → Image → Record → Added
+-- how many of each a kept set has
+abbrev pub node_count : Kept → ℕ
+node_count kept = length (sorted kept.nodes)
+
+abbrev pub site_count : Decoder → Image → Kept → ℕ
+site_count dec x kept = length (sites dec (code_in x.loads) (sorted kept.nodes))
+
+abbrev pub site_edge_count : Decoder → Image → Kept → ℕ
+site_edge_count dec x kept = length (site_edges dec (code_in x.loads) (sorted_edges kept.edges))
+
+abbrev pub added : Decoder → Image → Kept → Added
 added dec x kept =
-    let n = length kept.nodes in
-    let j = length (sites dec x.loads kept.nodes) in
-    let e = length (site_edges dec x.loads kept.edges) in
+    let n = node_count kept in
+    let j = site_count dec x kept in
+    let e = site_edge_count dec x kept in
     parts_below (tables_size j e) (code_size n j e) (stubs_size n) (page_floor (lowest x.loads))
 
 -- the place of a member in a list, from 0
@@ -80,8 +90,8 @@ layout_in nodes a =
       stub = λ at. a.stubs + 24 * index_of nodes at;
     }
 
-abbrev pub layout_of : Decoder → Image → Record → Layout
-layout_of dec x kept = layout_in kept.nodes (added dec x kept)
+abbrev pub layout_of : Decoder → Image → Kept → Layout
+layout_of dec x kept = layout_in (sorted kept.nodes) (added dec x kept)
 
 -- UD2 and six zero bytes, the address, and eight bytes of INT3
 abbrev pub stub_bytes : ℕ → List ℕ

@@ -9,11 +9,11 @@ use Rattle.rz_machine.specs.declared.items.Label.TheVariants as label
 use Rattle.rz_machine.specs.declared.items.Item.{Item}
 use Rattle.rz_machine.specs.declared.items.Item.TheVariants as item
 use Rattle.rz_machine.specs.declared.items.Fragment.{Fragment}
-use Rattle.rz_image.specs.Memory.{Regions, wrap}
+use Rattle.rz_image.specs.Memory.{wrap}
 use Rattle.rz_machine.specs.Insn.{Decoder, Way, Onward, Jumps, Branches, Calls, Halts, way_of}
 use Rattle.rz_machine.specs.First.{mov_number, spelling, spelling_len}
-use Rattle.rz_machine.specs.Keeps.{Edges, has_edge}
-use Rattle.rz_machine.specs.Nodes.{spelled_at}
+use Rattle.rz_machine.specs.Kept.{Edges, has_edge}
+use Rattle.rz_machine.specs.Nodes.{Code, spelled_at}
 use Rattle.rz_machine.specs.Added.{Added, index_of}
 
 -- where a transfer from a to b leads: to the fragment of b where the edge is kept, else to the stub of a
@@ -61,10 +61,10 @@ first_node [] = None
 first_node (a ∷ rest) = Some a
 
 -- the fragments of ascending nodes
-abbrev pub fragments : Decoder → Regions → Edges → List ℕ → List Fragment
-fragments dec m edges [] = []
-fragments dec m edges (a ∷ rest) =
-    record { at = a; items = trimmed (first_node rest) (items_for edges a (spelled_at dec m a)) } ∷ fragments dec m edges rest
+abbrev pub fragments : Decoder → Code → Edges → List ℕ → List Fragment
+fragments dec code edges [] = []
+fragments dec code edges (a ∷ rest) =
+    record { at = a; items = trimmed (first_node rest) (items_for edges a (spelled_at dec code a)) } ∷ fragments dec code edges rest
 
 -- lengths in bytes, every jump near
 abbrev pub item_len : Item → ℕ

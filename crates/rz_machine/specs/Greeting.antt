@@ -1,6 +1,6 @@
 -- A worked example: the code of a program that writes `hi` and a line's end to standard output, and exits.
 use Rattle.std.specs.Prelude.{ℕ, List, [], ◌∷◌}
-use Rattle.rz_machine.specs.declared.trace.Record.{Record}
+use Rattle.rz_machine.specs.Kept.{Kept}
 use Rattle.rz_machine.specs.Begun.{neighbours}
 
 abbrev pub greeting : List ℕ
@@ -19,5 +19,5 @@ greeting =
 abbrev pub greeting_nodes : List ℕ
 greeting_nodes = 0x401000 ∷ 0x401005 ∷ 0x40100a ∷ 0x40100f ∷ 0x401014 ∷ 0x401016 ∷ 0x40101b ∷ 0x401020 ∷ []
 
-abbrev pub greeting_record : Record
+abbrev pub greeting_record : Kept
 greeting_record = record { nodes = greeting_nodes; edges = neighbours greeting_nodes }

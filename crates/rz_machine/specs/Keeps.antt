@@ -1,13 +1,13 @@
 -- What it means that a new file keeps an old one's runs, up to the first edge that isn't kept.
-use Rattle.std.specs.Prelude.{◌≡◌, ℕ, suc, ◌<◌, ◌≤◌, ◌⊎◌, Bool, false, ◌&&◌, ◌==◌, List, Option, Some, None}
-use Rattle.std.specs.List.{list_any}
+use Rattle.std.specs.Prelude.{◌≡◌, ℕ, suc, ◌<◌, ◌≤◌, ◌⊎◌, false, List, Option, Some, None}
 use Rattle.rz_machine.specs.declared.machine.End.{End}
 use Rattle.rz_machine.specs.declared.machine.End.TheVariants as end
 use Rattle.rz_machine.specs.declared.machine.Machine.{Machine}
 use Rattle.rz_sys.specs.declared.input.Input.{Input}
-use Rattle.rz_machine.specs.declared.trace.Record.{Record}
 use Rattle.rz_image.specs.Memory.{Range, IsInside, Alike}
+use Rattle.rz_sys.specs.World.{SameWorld}
 use Rattle.rz_machine.specs.Insn.{Decoder}
+use Rattle.rz_machine.specs.Kept.{Edges, Kept, has_edge}
 use Rattle.rz_elf.specs.Elf.{image_of}
 use Rattle.rz_machine.specs.State.{step, after}
 use Rattle.rz_sys.specs.Input.{IsValid}
@@ -16,18 +16,12 @@ use Rattle.rz_machine.specs.Touches.{RunClear}
 use Rattle.rz_machine.specs.Added.{Layout, layout_of}
 
 -- equal registers, flags, input, replies, events and breaks, and alike memory outside the range;
--- RIP and the permission to execute are aside
+-- RIP, the permission to execute and the number of the heap's region are aside
 pub record Same (r : Range) (s t : Machine) : Type 0 where
   pub regs : s.cpu.regs ≡ t.cpu.regs
   pub flags : s.cpu.flags ≡ t.cpu.flags
-  pub world : s.world ≡ t.world
+  pub world : SameWorld s.world t.world
   pub mem : Alike r s.mem t.mem
-
-abbrev pub Edges : Type 0
-Edges = List (ℕ × ℕ)
-
-abbrev pub has_edge : Edges → ℕ → ℕ → Bool
-has_edge edges a b = list_any (λ e. e.0 == a && e.1 == b) edges
 
 -- the next step is that of an instruction, doesn't end the run, and takes an edge that isn't kept
 pub record Leaves (dec : Decoder) (edges : Edges) (s : Machine) : Type 0 where
@@ -48,6 +42,10 @@ abbrev pub AlikeEnds : Range → Option End → Option End → Type 0
 AlikeEnds code (Some (end.Illegal a)) (Some (end.Illegal b)) = (a ≡ b) ⊎ IsInside code b
 AlikeEnds code e f = e ≡ f
 
+-- the new run stands at a stub: its next step ends it there
+abbrev pub StopsAtStub : Decoder → Machine → Type 0
+StopsAtStub dec s = (step dec s).end ≡ Some (end.Illegal s.cpu.rip)
+
 -- the new file's run from w keeps the old file's run from x
 pub record KeepsRun (dec : Decoder) (edges : Edges) (lay : Layout) (x w : Machine) : Type 0 where
   -- before the cut and the end, the new run comes to the same state, with no fewer steps
@@ -60,9 +58,9 @@ pub record KeepsRun (dec : Decoder) (edges : Edges) (lay : Layout) (x w : Machin
   pub cut : (j : ℕ) → RunClear lay.added dec x (suc j) → IsCut dec edges x j
       → (m : ℕ) × (j < m) × ((after dec m w).end ≡ None) × Same lay.added (after dec (suc j) x) (after dec m w)
       × ((after dec m w).cpu.rip ≡ lay.stub (after dec j x).cpu.rip)
-      × ((step dec (after dec m w)).end ≡ Some (end.Illegal (after dec m w).cpu.rip))
+      × StopsAtStub dec (after dec m w)
 
 -- the file w keeps each run of the file x, for the kept nodes and edges
-abbrev pub Keeps : Decoder → List ℕ → List ℕ → Record → Type 0
+abbrev pub Keeps : Decoder → List ℕ → List ℕ → Kept → Type 0
 Keeps dec x w kept =
     (input : Input) → IsValid input → KeepsRun dec kept.edges (layout_of dec (image_of x) kept) (start (image_of x) input) (start (image_of w) input)

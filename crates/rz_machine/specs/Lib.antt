@@ -1,4 +1,5 @@
 pub mod Insn
+pub mod Kept
 pub mod Effect
 pub mod State
 pub mod Touches
@@ -11,7 +12,6 @@ pub mod Keeps
 pub mod WrittenFile
 pub mod Thin
 pub mod Greeting
-pub mod Rewritable
 pub mod Fragments
 pub mod Pace
 pub mod LeftCode

@@ -7,7 +7,8 @@ use Rattle.rz_machine.specs.Insn.{Decoder}
 use Rattle.rz_machine.specs.State.{after}
 use Rattle.rz_machine.specs.Touches.{RunClear}
 use Rattle.rz_machine.specs.Added.{Layout}
-use Rattle.rz_machine.specs.Keeps.{Same, Edges, IsCut, NoCut, AlikeEnds}
+use Rattle.rz_machine.specs.Keeps.{Same, IsCut, NoCut, AlikeEnds}
+use Rattle.rz_machine.specs.Kept.{Edges}
 
 -- m steps of the new run from w stand for n steps of the old one from x: one to `bound a` steps for a step at a
 abbrev pub IsMoment : Decoder → Range → (ℕ → ℕ) → Machine → Machine → ℕ → ℕ → Type 0

@@ -10,6 +10,7 @@ use Rattle.rz_sys.specs.declared.input.Input.{Input}
 use Rattle.rz_sys.specs.Input.{strings}
 use Rattle.rz_image.specs.Memory.{zeros}
 use Rattle.rz_elf.specs.Elf.{Image}
+use Rattle.rz_elf.specs.Loaded.{ElfFile, loaded}
 
 abbrev pub stack_base : ℕ
 stack_base = 0x7fffffeff000
@@ -59,3 +60,7 @@ start image input =
       world = record { stdin = input.stdin; replies = input.replies; events = []; first_break = image.first_break; brk = image.first_break };
       end = None;
     }
+
+-- the opening state of what was read of a file
+abbrev pub first_state : ElfFile → Input → Machine
+first_state elf input = start (loaded elf) input

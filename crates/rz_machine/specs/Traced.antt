@@ -7,16 +7,21 @@ use Rattle.rz_machine.specs.declared.trace.Record.{Record}
 use Rattle.rz_machine.specs.declared.trace.TraceRefusal.{TraceRefusal}
 use Rattle.rz_machine.specs.declared.trace.TraceRefusal.TheVariants as refusal
 use Rattle.rz_machine.specs.Insn.{Decoder}
-use Rattle.rz_machine.specs.Begun.{begun, neighbours, with_nodes, with_edges}
+use Rattle.rz_machine.specs.Kept.{Kept, with_nodes, with_edges}
+use Rattle.rz_machine.specs.Begun.{begun, neighbours}
 use Rattle.rz_machine.specs.LeftCode.{LeavesCode}
 
--- a record with the nodes and the edges of the first n steps
-unfoldable pub with_run : Decoder → ℕ → Machine → Record → Record
+-- what a record keeps
+abbrev pub kept_in : Record → Kept
+kept_in rec = record { nodes = rec.nodes; edges = rec.edges }
+
+-- a kept set with the nodes and the edges of the first n steps
+unfoldable pub with_run : Decoder → ℕ → Machine → Kept → Kept
 with_run dec n s kept =
     record { nodes = with_nodes kept.nodes (begun dec n s); edges = with_edges kept.edges (neighbours (begun dec n s)) }
 
--- a record with nodes of some of the first n steps, and with edges of some
-pub record HasPart (dec : Decoder) (n : ℕ) (s : Machine) (old new : Record) : Type 0 where
+-- a kept set with nodes of some of the first n steps, and with edges of some
+pub record HasPart (dec : Decoder) (n : ℕ) (s : Machine) (old new : Kept) : Type 0 where
   pub node_steps : ℕ
   pub edge_steps : ℕ
   pub few : (node_steps ≤ n) × (edge_steps ≤ n)
@@ -25,7 +30,7 @@ pub record HasPart (dec : Decoder) (n : ℕ) (s : Machine) (old new : Record) : 
 
 -- the run left the code at the address that the refusal names, and its steps are recorded;
 -- or there was no memory, and what it held and a part of the run are recorded
-abbrev pub IsRefused : Decoder → ℕ → Machine → Record → Record → TraceRefusal → Type 0
+abbrev pub IsRefused : Decoder → ℕ → Machine → Kept → Kept → TraceRefusal → Type 0
 IsRefused dec n s old new (refusal.LeftCode a) = LeavesCode dec n s a × (new ≡ with_run dec n s old)
 IsRefused dec n s old new refusal.OutOfMemory = HasPart dec n s old new
 
@@ -34,6 +39,6 @@ abbrev pub edge_from : Option ℕ → ℕ → List (ℕ × ℕ)
 edge_from None at = []
 edge_from (Some last) at = (last, at) ∷ []
 
--- a record with one more instruction begun
-abbrev pub with_begun : Record → Option ℕ → ℕ → Record
+-- a kept set with one more instruction begun
+abbrev pub with_begun : Kept → Option ℕ → ℕ → Kept
 with_begun kept last at = record { nodes = insert_key nat_cmp kept.nodes at; edges = with_edges kept.edges (edge_from last at) }

@@ -4,12 +4,12 @@ use Rattle.byteorder.specs.Endian.{little_bytes}
 use Rattle.rz_num.specs.Page.{page_up}
 use Rattle.rz_image.specs.Perm.{read_only, read_execute, read_write}
 use Rattle.rz_image.specs.declared.region.Region.{Region}
-use Rattle.rz_machine.specs.declared.trace.Record.{Record}
 pub use Rattle.rz_machine.specs.declared.elf_write.Parts.{Parts}
 use Rattle.rz_image.specs.Memory.{Regions, whole_region, zeros}
 use Rattle.rz_elf.specs.Elf.{segments, is_load, is_stack, fault_of, Image, image_of}
 use Rattle.rz_elf.specs.declared.segment.Segment.{Segment}
 use Rattle.rz_machine.specs.Insn.{Decoder}
+use Rattle.rz_machine.specs.Kept.{Kept, sorted}
 use Rattle.rz_machine.specs.Added.{Added, added, scratch_size, all_stubs, filled}
 
 -- the bytes of a program header (System V gABI, chapter 5, "Program Header")
@@ -120,7 +120,7 @@ pub record IsAdded (a : Added) (nodes : List ℕ) (p : Parts) (entry : ℕ) : Ty
   pub entry_below : entry < a.stubs
 
 -- w is the written file of x for what is kept, whatever stands in tables and code
-pub record Inert (dec : Decoder) (x w : List ℕ) (kept : Record) : Type 0 where
+pub record Inert (dec : Decoder) (x w : List ℕ) (kept : Kept) : Type 0 where
   pub tables : List ℕ
   pub code : List ℕ
   pub entry : ℕ
@@ -128,7 +128,7 @@ pub record Inert (dec : Decoder) (x w : List ℕ) (kept : Record) : Type 0 where
   pub code_long : let a = added dec (image_of x) kept in length code ≡ a.stubs - a.code
   pub entry_in_code : let a = added dec (image_of x) kept in (a.code ≤ entry) × (entry < a.stubs)
   pub bytes : let a = added dec (image_of x) kept in
-      w ≡ written_file x (record { base = a.scratch; tables = tables; code = code; stubs = stubs_part a kept.nodes }) entry
+      w ≡ written_file x (record { base = a.scratch; tables = tables; code = code; stubs = stubs_part a (sorted kept.nodes) }) entry
   pub accepted : fault_of w ≡ None
   pub image : let a = added dec (image_of x) kept in
-      image_of w ≡ new_image (image_of x) (record { base = a.scratch; tables = tables; code = code; stubs = stubs_part a kept.nodes }) entry
+      image_of w ≡ new_image (image_of x) (record { base = a.scratch; tables = tables; code = code; stubs = stubs_part a (sorted kept.nodes) }) entry

@@ -2,11 +2,11 @@
 
 ghost use Rattle.std.specs.Prelude.{◌≡◌, ◌≤◌, ◌+◌, ℕ, List, [], ◌∷◌, length, None};
 ghost use Rattle.rz_num.specs.Page.{page_up};
-ghost use Rattle.rz_machine.specs.declared.trace.Record.{Record};
+ghost use Rattle.rz_machine.specs.Kept.{Kept, sorted};
 ghost use Rattle.rz_image.specs.Memory.{whole_region};
 ghost use Rattle.rz_elf.specs.Elf.{fault_of, image_of};
 ghost use Rattle.rz_machine.specs.First.{decode_first};
-ghost use Rattle.rz_machine.specs.Added.{added};
+ghost use Rattle.rz_machine.specs.Added.{added, node_count};
 ghost use Rattle.rz_machine.specs.Greeting.{greeting, greeting_record};
 ghost use Rattle.rz_machine.specs.WrittenFile.{Parts, IsAdded, written_file, Inert};
 ghost use Rattle.rz_image.specs.Perm.{read_execute};
@@ -21,7 +21,7 @@ pub fn thin_files_load_their_code()
 /// A file that is written for a thin file, with parts of the right sizes at the right place, is accepted, and its
 /// loads are those of the thin file, no longer executable, and the added ones.
 pub fn written_files_are_inert()
-    ensures { (x w : List ℕ) (kept : Record) (p : Parts) (entry : ℕ) → IsThin x → 1 ≤ length kept.nodes → length kept.nodes ≤ 65536 → IsAdded (added decode_first (image_of x) kept) kept.nodes p entry → w ≡ written_file x p entry → Inert decode_first x w kept }
+    ensures { (x w : List ℕ) (kept : Kept) (p : Parts) (entry : ℕ) → IsThin x → 1 ≤ node_count kept → node_count kept ≤ 65536 → IsAdded (added decode_first (image_of x) kept) (sorted kept.nodes) p entry → w ≡ written_file x p entry → Inert decode_first x w kept }
 {}
 
 /// The greeting's file is accepted, and its eight instructions get parts of one page each below its code.

@@ -5,12 +5,10 @@ ghost use Rattle.std.specs.Ordering.{nat_cmp};
 ghost use Rattle.std.specs.BTreeSet.{insert_key};
 ghost use Rattle.std.specs.List.Sorted.{IsStrictlySortedBy};
 ghost use Rattle.rz_machine.specs.LeftCode.{left_at, StaysInCode};
-ghost use Rattle.rz_machine.specs.Traced.{with_run, IsRefused};
-ghost use Rattle.rz_machine.specs.Recorded.{StandsIn, IsUncut};
-ghost use Rattle.rz_machine.specs.Rewritable.{IsRewritable};
-ghost use Rattle.rz_image.specs.Memory.{NoSelfWritten};
+ghost use Rattle.rz_machine.specs.Traced.{with_run, kept_in, IsRefused};
+ghost use Rattle.rz_machine.specs.Recorded.{IsUncut, StaysPlausible};
 ghost use Rattle.rz_sys.specs.Input.{IsEmptyInput};
-ghost use Rattle.rz_machine.specs.Start.{start as start_of};
+ghost use Rattle.rz_machine.specs.Start.{first_state};
 ghost use Rattle.rz_elf.specs.Loaded.{loaded};
 
 use crate::machine::{End, Machine};
@@ -39,7 +37,7 @@ impl Model for AddrSet {
 }
 
 impl AddrSet {
-    ghost use Rattle.rz_machine.specs.Rewritable.{has_node, IsAscending};
+    ghost use Rattle.rz_machine.specs.Kept.{has_node, sorted as sorted_of};
 
     /// The set of no addresses. It takes no memory.
     pub fn new(alloc: Global) -> AddrSet
@@ -74,9 +72,9 @@ impl AddrSet {
     }
 
     /// Its addresses in ascending order. It refuses for want of memory alone.
-    pub fn to_words(&self, alloc: Global) -> Result<Words, OutOfMemory>
+    pub fn sorted(&self, alloc: Global) -> Result<Words, OutOfMemory>
         ensures same { IfOk result (λ words. words ≡ self.now) }
-        ensures ascending { IsAscending self.now }
+        ensures order { sorted_of self.now ≡ self.now }
     {
         Ok(Words::from_vec(self.items.iter().copied().collect(alloc)?))
     }
@@ -97,8 +95,7 @@ impl Model for EdgeSet {
 }
 
 impl EdgeSet {
-    ghost use Rattle.rz_machine.specs.Begun.{pair_cmp};
-    ghost use Rattle.rz_machine.specs.Keeps.{has_edge};
+    ghost use Rattle.rz_machine.specs.Kept.{pair_cmp, has_edge};
 
     /// The set of no edges. It takes no memory.
     pub fn new(alloc: Global) -> EdgeSet
@@ -133,7 +130,7 @@ impl EdgeSet {
     }
 
     /// Its edges in ascending order, by their first and then their second address. It refuses for want of memory alone.
-    pub fn to_pairs(&self, alloc: Global) -> Result<Pairs, OutOfMemory>
+    pub fn sorted(&self, alloc: Global) -> Result<Pairs, OutOfMemory>
         ensures same { IfOk result (λ pairs. pairs ≡ self.now) }
         ensures ascending { IsStrictlySortedBy pair_cmp self.now }
     {
@@ -163,7 +160,7 @@ impl Record {
 
     // Adds an instruction that was begun, and the edge from the one begun before it.
     fn add(&mut self, last: Option<u64>, at: u64) -> Result<(), OutOfMemory>
-        ensures ok { OnOk result (self.new ≡ with_begun self.old last at) }
+        ensures ok { OnOk result (kept_in self.new ≡ with_begun (kept_in self.old) last at) }
         ensures edges { OnErr result (self.new.edges ≡ self.old.edges) }
         ensures nodes { OnErr result ((self.new.nodes ≡ self.old.nodes) ⊎ (self.new.nodes ≡ insert_key nat_cmp self.old.nodes at)) }
     {
@@ -207,13 +204,12 @@ pub fn trace<T: InsnTable>(
     rec: &mut Record,
 ) -> Result<(), TraceRefusal>
     requires input { IsEmptyInput input.now }
-    ensures added { OnOk result (rec.new ≡ with_run T.decoder limit (start_of (loaded elf.now) input.now) rec.old) }
-    ensures stays { OnOk result (StaysInCode T.decoder limit (start_of (loaded elf.now) input.now)) }
-    ensures refused { IfErr result (IsRefused T.decoder limit (start_of (loaded elf.now) input.now) rec.old rec.new) }
-    // What is recorded from nothing, with a limit of at least 1, can be rewritten, and the run has no cut.
-    ensures rewritable { OnOk result (1 ≤ limit → NoSelfWritten (loaded elf.now).loads
-        → StandsIn T.decoder (loaded elf.now).loads rec.old → IsRewritable T.decoder (loaded elf.now) rec.new) }
-    ensures uncut { OnOk result (IsUncut T.decoder rec.new.edges (start_of (loaded elf.now) input.now) limit) }
+    ensures added { OnOk result (kept_in rec.new ≡ with_run T.decoder limit (first_state elf.now input.now) (kept_in rec.old)) }
+    ensures stays { OnOk result (StaysInCode T.decoder limit (first_state elf.now input.now)) }
+    ensures refused { IfErr result (IsRefused T.decoder limit (first_state elf.now input.now) (kept_in rec.old) (kept_in rec.new)) }
+    // What is recorded from what stands in the code is plausible, and the run has no cut.
+    ensures plausible { OnOk result (StaysPlausible T.decoder limit (loaded elf.now) (kept_in rec.old) (kept_in rec.new)) }
+    ensures uncut { OnOk result (IsUncut T.decoder rec.new.edges (first_state elf.now input.now) limit) }
 {
     let mut machine = start(alloc, elf, input)?;
     follow::<T>(alloc, &mut machine, limit, rec)
@@ -237,9 +233,9 @@ fn follow<T: InsnTable>(
     rec: &mut Record,
 ) -> Result<(), TraceRefusal>
     requires { left_at machine.old.end ≡ None }
-    ensures ok { OnOk result (rec.new ≡ with_run T.decoder limit machine.old rec.old) }
+    ensures ok { OnOk result (kept_in rec.new ≡ with_run T.decoder limit machine.old (kept_in rec.old)) }
     ensures stays { OnOk result (StaysInCode T.decoder limit machine.old) }
-    ensures err { IfErr result (IsRefused T.decoder limit machine.old rec.old rec.new) }
+    ensures err { IfErr result (IsRefused T.decoder limit machine.old (kept_in rec.old) (kept_in rec.new)) }
 {
     let mut last = None;
     for _ in 0..limit {

@@ -1,11 +1,12 @@
 -- A system call is answered alike over memories that are alike outside a range, where its own range is outside it.
-use Rattle.std.proofs.Common.{◌≡◌, ℕ, ◌+◌, ◌^◌, ◌<◌, ◌≤◌, ◌⊎◌, inl, inr, ⊎_elim, Bool, true, false, Option, Some, None, refl, sym, subst, arith, min, leb-true, mod-eq_of_lt}
+use Rattle.std.proofs.Common.{◌≡◌, ℕ, List, ◌∙◌, ap₂, ◌+◌, ◌^◌, ◌<◌, ◌≤◌, ◌⊎◌, inl, inr, ⊎_elim, Bool, true, false, Option, Some, None, refl, sym, subst, arith, min, leb-true, mod-eq_of_lt}
 use Rattle.rz_image.specs.Memory.{Cell, Regions, Range, IsOutside, IsClear, Alike, refused, is_readable, wrap}
 use Rattle.rz_image.specs.Laws.Alike.{fewer_clear, alike_bytes, alike_readable}
 use Rattle.rz_sys.specs.declared.input.Reply.{Reply}
 use Rattle.rz_sys.specs.declared.input.Reply.TheVariants.{Full, AtMost, Error}
 use Rattle.rz_sys.specs.declared.world.World.{World}
-use Rattle.rz_sys.specs.Answer.{Called, Call, Write, Exit, Other, NoFile, CallClear, answer_as, write_allowed, write_reply, next_reply, whole, no_wrap, cut_count}
+use Rattle.rz_sys.specs.World.{SameWorld}
+use Rattle.rz_sys.specs.Answer.{Called, Call, Write, Exit, Other, NoFile, CallClear, answer, answer_as, call_in, rdi, rsi, rdx, world_after, write_allowed, write_reply, next_reply, whole, no_wrap, cut_count}
 
 -- what two calls answer, move and leave is the same, but for memories that are alike outside a range
 pub record CalledAlike (r : Range) (c d : Called) : Type 0 where
@@ -51,7 +52,7 @@ whole_same r at n o p clear h = go (no_wrap at n) refl
     go false e = refl
 
 -- each system call is answered alike
-pub call_alike : (r : Range) (m m' : Regions) (w : World) (call : Call) (a b c : ℕ) → CallClear r call b (cut_count c) → Alike r m m' → CalledAlike r (answer_as call a b c m w) (answer_as call a b c m' w)
+call_alike : (r : Range) (m m' : Regions) (w : World) (call : Call) (a b c : ℕ) → CallClear r call b (cut_count c) → Alike r m m' → CalledAlike r (answer_as call a b c m w) (answer_as call a b c m' w)
 call_alike r m m' w Exit a b c clear h = record { answer = refl; bytes = refl; mem = h; stdin = refl; replies = refl; exit = refl }
 call_alike r m m' w Other a b c clear h = record { answer = refl; bytes = refl; mem = h; stdin = refl; replies = refl; exit = refl }
 call_alike r m m' w NoFile a b c clear h = record { answer = refl; bytes = refl; mem = h; stdin = refl; replies = refl; exit = refl }
@@ -60,3 +61,47 @@ call_alike r m m' w Write a b c clear h =
     let e = whole_same r b n (refused is_readable m b n) (refused is_readable m' b n) clear (λ k. alike_readable r m m' b n k h) in
     let P : Option ℕ → Type 0 = λ o. CalledAlike r (write_allowed (whole (no_wrap b n) (refused is_readable m b n)) b n m w) (write_allowed o b n m' w) in
     subst P e (write_alike r m m' w b n h _ (looked r m m' b n is_readable clear))
+
+-- of a world, an answer sees the rests of input and replies alone
+rests_alone : (k : Call) (a b c : ℕ) (m : Regions) (w w' : World) → answer_as k a b c m w ≡ answer_as k a b c m (record w' { stdin = w.stdin; replies = w.replies })
+rests_alone Exit a b c m w w' = refl
+rests_alone Other a b c m w w' = refl
+rests_alone NoFile a b c m w w' = refl
+rests_alone Write a b c m w w' = allowed (whole (no_wrap b (cut_count c)) (refused is_readable m b (cut_count c))) b (cut_count c)
+  where
+    sent : (p : Reply) (at n : ℕ) → write_reply p at n m w ≡ write_reply p at n m (record w' { stdin = w.stdin; replies = w.replies })
+    sent Full at n = refl
+    sent (AtMost k) at n = refl
+    sent (Error e) at n = refl
+
+    allowed : (o : Option ℕ) (at n : ℕ) → write_allowed o at n m w ≡ write_allowed o at n m (record w' { stdin = w.stdin; replies = w.replies })
+    allowed (Some bad) at n = refl
+    allowed None at n = sent (next_reply w.replies) at n
+
+same_world_answer : (k : Call) (a b c : ℕ) (m : Regions) (w w' : World) → SameWorld w w' → answer_as k a b c m w ≡ answer_as k a b c m w'
+same_world_answer k a b c m w w' h =
+    rests_alone k a b c m w w' ∙ ap₂ (λ i r. let v : World = record w' { stdin = i; replies = r } in answer_as k a b c m v) h.stdin h.replies
+
+-- the call that equal registers name is answered alike
+pub answer_alike : (r : Range) (regs regs' : List ℕ) (m m' : Regions) (w w' : World) → CallClear r (call_in regs) (rsi regs) (cut_count (rdx regs))
+    → regs ≡ regs' → SameWorld w w' → Alike r m m' → CalledAlike r (answer regs m w) (answer regs' m' w')
+unfolding answer
+answer_alike r regs regs' m m' w w' clear e h alike =
+    let one = call_alike r m m' w (call_in regs) (rdi regs) (rsi regs) (rdx regs) clear alike in
+    let world = same_world_answer (call_in regs) (rdi regs) (rsi regs) (rdx regs) m' w w' h in
+    let P : List ℕ → Type 0 = λ l. CalledAlike r (answer regs m w) (answer l m' w') in
+    subst P e (subst (CalledAlike r (answer regs m w)) world one)
+
+-- and leaves the same world
+pub world_after_alike : (r : Range) (regs regs' : List ℕ) (w w' : World) (c d : Called) → regs ≡ regs' → SameWorld w w' → CalledAlike r c d → SameWorld (world_after regs w c) (world_after regs' w' d)
+world_after_alike r regs regs' w w' c d e h k =
+    record {
+      stdin = k.stdin;
+      replies = k.replies;
+      events = let x = h.events in let y = k.answer in let z = k.bytes in cc;
+      first_break = h.first_break;
+      brk = h.brk;
+    }
+
+pub same_world : (w : World) → SameWorld w w
+same_world w = record { stdin = refl; replies = refl; events = refl; first_break = refl; brk = refl }

@@ -1,6 +1,6 @@
 use Rattle.std.proofs.Common.{Result, Ok, Err, OnOk}
 use Rattle.rz_machine.proofs.TraceTurns.{no_memory, HasPart-nothing}
-use Rattle.rz_machine.proofs.RecordedLaws.{traced_rewritable, traced_uncut}
+use Rattle.rz_machine.proofs.RecordedLaws.{traced_plausible, traced_uncut}
 use Rattle.rz_machine.proofs.trace.trace.Goals as goal
 
 on_both : {A E : Type 0} (P Q R : Type 0) (r : Result A E) → OnOk r P → OnOk r Q → (P → Q → R) → OnOk r R
@@ -10,9 +10,9 @@ on_both P Q R (Err e) p q f = tt
 pub returns-in_err-machine-clause-refused : goal.returns-in_err-machine-clause-refused
 returns-in_err-machine-clause-refused g c = no_memory _ _ _ _ _ _ c.from_residual.ensures.1 (HasPart-nothing _ _ _ _)
 
-pub returns-clause-rewritable : goal.returns-clause-rewritable
-returns-clause-rewritable g c =
-    on_both _ _ _ c.follow.result c.follow.ensures.ok c.follow.ensures.stays (traced_rewritable _ _ _ _ _ _ _ c.in_ok-machine.ensures)
+pub returns-clause-plausible : goal.returns-clause-plausible
+returns-clause-plausible g c =
+    on_both _ _ _ c.follow.result c.follow.ensures.ok c.follow.ensures.stays (traced_plausible _ _ _ _ _ _ _ c.in_ok-machine.ensures)
 
 pub returns-clause-uncut : goal.returns-clause-uncut
 returns-clause-uncut g c = on_both _ _ _ c.follow.result c.follow.ensures.ok c.follow.ensures.stays (traced_uncut _ _ _ _ _ _ c.in_ok-machine.ensures)
