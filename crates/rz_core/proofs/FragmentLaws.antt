@@ -5,23 +5,23 @@ use Rattle.std.proofs.lemmas.List.Elements.{All-from_recursion, recursion_from_A
 use Rattle.rz_machine.specs.declared.decode.Decoded.{Decoded}
 use Rattle.rz_machine.specs.declared.decode.Decoded.TheVariants as decoded
 use Rattle.rz_machine.specs.declared.items.Item.{Item}
-use Rattle.rz_image.specs.Memory.{Regions, wrap}
+use Rattle.rz_image.specs.Memory.{wrap}
 use Rattle.rz_machine.specs.Insn.{Decoder, Way, Onward, Jumps, Branches, Calls, Halts, way_of, target_in}
 use Rattle.rz_machine.specs.First.{decode_first, HasSpelling}
 use Rattle.rz_machine.specs.TableLaws.{AreBytes, NamesInsn}
 use Rattle.rz_machine.specs.FirstLaws.{names_insns, spelled_where_decoded, spelled_anywhere}
 use Rattle.rz_machine.specs.Kept.{Edges}
-use Rattle.rz_machine.specs.Nodes.{spelled_at}
+use Rattle.rz_machine.specs.Nodes.{Code, spelled_at}
 use Rattle.rz_machine.specs.Fragments.{items_by, items_for, trimmed, is_needless, first_node, fragments}
 use Rattle.rz_core.specs.Places.{nodes_of}
 use Rattle.rz_core.specs.Spellable.{IsSpellable, IsFragmentSpellable, IsDecodedSpellable}
 
 -- the fragments of nodes stand for these nodes
-pub nodes_of_fragments : (dec : Decoder) (m : Regions) (edges : Edges) (nodes : List ℕ) → nodes_of (fragments dec m edges nodes) ≡ nodes
+pub nodes_of_fragments : (dec : Decoder) (m : Code) (edges : Edges) (nodes : List ℕ) → nodes_of (fragments dec m edges nodes) ≡ nodes
 nodes_of_fragments dec m edges [] = refl
 nodes_of_fragments dec m edges (a ∷ rest) = ap (λ l. a ∷ l) (nodes_of_fragments dec m edges rest)
 
-pub length-fragments : (dec : Decoder) (m : Regions) (edges : Edges) (nodes : List ℕ) → length (fragments dec m edges nodes) ≡ length nodes
+pub length-fragments : (dec : Decoder) (m : Code) (edges : Edges) (nodes : List ℕ) → length (fragments dec m edges nodes) ≡ length nodes
 length-fragments dec m edges [] = refl
 length-fragments dec m edges (a ∷ rest) = ap suc (length-fragments dec m edges rest)
 
@@ -64,7 +64,7 @@ trimmed-spellable following (i ∷ j ∷ []) all = without_last-spellable (is_ne
 trimmed-spellable following (i ∷ j ∷ k ∷ rest) all = (all.0, trimmed-spellable following (j ∷ k ∷ rest) all.1)
 
 -- each item of the fragments has a spelling, where the nodes are low and what is decoded there has one
-pub fragments_spellable : (m : Regions) (edges : Edges) (nodes : List ℕ) → All (λ a. a < 2 ^ 31) nodes → All (λ a. IsDecodedSpellable (spelled_at decode_first m a)) nodes → All IsFragmentSpellable (fragments decode_first m edges nodes)
+pub fragments_spellable : (m : Code) (edges : Edges) (nodes : List ℕ) → All (λ a. a < 2 ^ 31) nodes → All (λ a. IsDecodedSpellable (spelled_at decode_first m a)) nodes → All IsFragmentSpellable (fragments decode_first m edges nodes)
 fragments_spellable m edges nodes low spellable =
     All-from_recursion IsFragmentSpellable _ (each nodes (recursion_from_All (λ a. a < 2 ^ 31) nodes low) (recursion_from_All (λ a. IsDecodedSpellable (spelled_at decode_first m a)) nodes spellable))
   where

@@ -3,13 +3,12 @@ use Rattle.std.proofs.Common.{◌≡◌, ℕ, ◌+◌, ◌<◌, ◌≤◌, List,
 use Rattle.std.proofs.lemmas.List.{drop_all}
 use Rattle.rz_machine.specs.declared.decode.Decoded.{Decoded}
 use Rattle.rz_machine.specs.declared.items.Fragment.{Fragment}
-use Rattle.rz_image.specs.Memory.{Regions}
 use Rattle.rz_machine.specs.Insn.{Decoder}
 use Rattle.rz_machine.specs.Kept.{Edges}
-use Rattle.rz_machine.specs.Nodes.{spelled_at}
+use Rattle.rz_machine.specs.Nodes.{Code, spelled_at}
 use Rattle.rz_machine.specs.Fragments.{items_for, trimmed, first_node, fragments}
 
-module _ (dec : Decoder) (m : Regions) (edges : Edges) (nodes : List ℕ) (i : ℕ) where
+module _ (dec : Decoder) (m : Code) (edges : Edges) (nodes : List ℕ) (i : ℕ) where
   -- one fragment more
   pub fragments_turn : (out out2 : List Fragment) (f : Fragment) (d : Decoded) (following : Option ℕ) → i < length nodes
       → out2 ≡ out ++ f ∷ []

@@ -5,8 +5,8 @@ use Rattle.std.specs.List.{AllByRecursion}
 use Rattle.rz_elf.specs.declared.elf.Elf.{Elf}
 use Rattle.rz_machine.specs.declared.machine.Machine.{Machine}
 use Rattle.rz_sys.specs.declared.input.Input.{Input}
-use Rattle.rz_machine.specs.Kept.{Kept}
-use Rattle.rz_image.specs.Memory.{Regions, NoSelfWritten}
+use Rattle.rz_machine.specs.Kept.{Kept, sorted, sorted_edges}
+use Rattle.rz_image.specs.Memory.{NoSelfWritten}
 use Rattle.rz_elf.specs.Elf.{fault_of, image_of, Image}
 use Rattle.rz_machine.specs.Insn.{Decoder}
 use Rattle.rz_machine.specs.First.{decode_first}
@@ -18,7 +18,8 @@ use Rattle.rz_machine.specs.Start.{start}
 use Rattle.rz_machine.specs.Begun.{recorded}
 use Rattle.rz_machine.specs.LeftCode.{StaysInCode}
 use Rattle.rz_machine.specs.Recorded.{IsUncut}
-use Rattle.rz_machine.specs.Nodes.{StandsIn}
+use Rattle.rz_machine.specs.Nodes.{Code, code_in, StandsIn}
+use Rattle.rz_machine.proofs.RecordedLaws.{nothing_stands}
 use Rattle.rz_machine.specs.Traced.{with_run}
 use Rattle.rz_machine.specs.WrittenFile.{Inert}
 use Rattle.rz_machine.specs.Keeps.{Keeps}
@@ -59,27 +60,16 @@ unwritten_of elf h = none_self_written (loaded elf).loads (all_map IsPlainRegion
 abbrev pub nothing : Kept
 nothing = record { nodes = []; edges = [] }
 
--- a trace from nothing asks nothing of what was recorded before
-empty_stands : (dec : Decoder) (m : Regions) → StandsIn dec m nothing
-empty_stands dec m =
-    record {
-      ascending = tt;
-      nodes = λ a e. absurd (cc);
-      sources = λ a b e. absurd (cc);
-      ends = λ a b e. absurd (cc);
-      direct = λ a b e f. absurd (cc);
-    }
-
 -- the report names no sites
 pub report_is : (elf : Elf) (limit : ℕ) (kept : Kept) (report : List ℕ) → IsOfThin elf → kept ≡ kept_of limit elf.bytes
     → report ≡ report_text (added decode_first (loaded elf) kept).scratch (length kept.edges) (length kept.nodes) 0 0
     → report ≡ report_of limit elf.bytes
 report_is elf limit kept report h same e =
-    let m : Regions = (image_of elf.bytes).loads in
+    let m : Code = code_in (image_of elf.bytes).loads in
     let k : Kept = kept_of limit elf.bytes in
     e
     ∙ ap₂ (λ (i : Image) (r : Kept). report_text (added decode_first i r).scratch (length r.edges) (length r.nodes) 0 0) h.image same
-    ∙ ap₂ (λ (es : List (ℕ × ℕ)) (ns : List ℕ). report_text (added decode_first (image_of elf.bytes) k).scratch (length k.edges) (length k.nodes) (length es) (length ns)) (sym (site_edges-first m k.edges)) (sym (sites-first m k.nodes))
+    ∙ ap₂ (λ (es : List (ℕ × ℕ)) (ns : List ℕ). report_text (added decode_first (image_of elf.bytes) k).scratch (length k.edges) (length k.nodes) (length es) (length ns)) (sym (site_edges-first m (sorted_edges k.edges))) (sym (sites-first m (sorted k.nodes)))
 
 -- what is made of a thin file for the set that its run recorded
 pub debloated_of : (elf : Elf) (limit : ℕ) (kept : Kept) (w : List ℕ) → IsOfThin elf → kept ≡ kept_of limit elf.bytes
@@ -105,5 +95,5 @@ pub kept_is : (elf : Elf) (limit : ℕ) (input : Input) (kept old : Kept) → Is
 unfolding with_run recorded
 kept_is elf limit input kept old h e o is = is ∙ ap₂ (λ (s : Machine) (r : Kept). with_run decode_first limit s r) (traced_is elf input h e) o
 
-pub nothing_stands : (m : Regions) (old : Kept) → old ≡ nothing → StandsIn decode_first m old
-nothing_stands m old o = subst (StandsIn decode_first m) (sym o) (empty_stands decode_first m)
+pub from_nothing : (code : Code) (old : Kept) → old ≡ nothing → StandsIn decode_first code old
+from_nothing code old o = subst (StandsIn decode_first code) (sym o) (nothing_stands decode_first code)

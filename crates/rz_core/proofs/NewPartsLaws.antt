@@ -6,15 +6,15 @@ use Rattle.std.proofs.lemmas.List.Folds.{list_any_at}
 use Rattle.rz_machine.specs.declared.items.Label.{Label}
 use Rattle.rz_machine.specs.declared.items.Label.TheVariants as label
 use Rattle.rz_machine.specs.declared.items.Fragment.{Fragment}
-use Rattle.rz_machine.specs.Kept.{Kept}
+use Rattle.rz_machine.specs.Kept.{Kept, IsAscending, sorted, sorted_edges}
+use Rattle.rz_machine.proofs.SetLaws.{has_node-sorted, IsAscending-sorted}
 use Rattle.rz_image.specs.Memory.{zeros}
 use Rattle.rz_elf.specs.Elf.{Image}
 use Rattle.rz_machine.specs.First.{decode_first}
 use Rattle.rz_machine.specs.Fragments.{fragments_bytes, address_of, total_len}
-use Rattle.rz_machine.specs.Added.{Added, added, tables_size, code_size, stubs_size, page_floor, lowest, parts_below, all_stubs, filled}
+use Rattle.rz_machine.specs.Added.{Added, node_count, added, tables_size, code_size, stubs_size, page_floor, lowest, parts_below, all_stubs, filled}
 use Rattle.rz_machine.specs.declared.elf_write.Parts.{Parts}
-use Rattle.rz_machine.specs.Nodes.{IsPlausible}
-use Rattle.rz_machine.specs.Kept.{IsAscending}
+use Rattle.rz_machine.specs.Nodes.{code_in, IsPlausible}
 use Rattle.rz_elf.specs.PlainImage.{IsPlainImage}
 use Rattle.rz_machine.specs.Rewritten.{HasRoom, IsRewritten, fragments_of, place_of, code_of_nodes}
 use Rattle.rz_machine.proofs.AddedLaws.{sites-first, site_edges-first}
@@ -29,12 +29,15 @@ use Rattle.rz_core.specs.Places.{Placing, address_in, nodes_of, IsPlacingOf}
 use Rattle.rz_core.proofs.FragmentLaws.{nodes_of_fragments, length-fragments}
 use Rattle.rz_machine.proofs.Emitted.{total_most}
 
-module _ (x : Image) (kept : Kept) (plain : IsPlainImage x) (can : IsRewritable decode_first x kept) (room : HasRoom decode_first x kept) where
+module _ (x : Image) (kept : Kept) (plain : IsPlainImage x) (can : IsPlausible decode_first (code_in x.loads) x.entry kept) (room : HasRoom decode_first x kept) where
   abbrev a : Added
   a = added decode_first x kept
 
   abbrev n : ℕ
-  n = length kept.nodes
+  n = node_count kept
+
+  abbrev nodes_up : List ℕ
+  nodes_up = sorted kept.nodes
 
   abbrev frags : List Fragment
   frags = fragments_of decode_first x kept
@@ -43,13 +46,13 @@ module _ (x : Image) (kept : Kept) (plain : IsPlainImage x) (can : IsRewritable 
   pub range_is : parts_below (tables_size 0 0) (code_size n 0 0) (stubs_size n) (page_floor (lowest x.loads)) ≡ a
   range_is =
       ap₂ (λ (s : List ℕ) (e : List (ℕ × ℕ)). parts_below (tables_size (length s) (length e)) (code_size n (length s) (length e)) (stubs_size n) (page_floor (lowest x.loads)))
-      (sym (sites-first x.loads kept.nodes)) (sym (site_edges-first x.loads kept.edges))
+      (sym (sites-first (code_in x.loads) nodes_up)) (sym (site_edges-first (code_in x.loads) (sorted_edges kept.edges)))
 
   -- each node is low
-  pub nodes_low : All (λ b. b < 2 ^ 31) kept.nodes
+  pub nodes_low : All (λ b. b < 2 ^ 31) nodes_up
   nodes_low k d lt =
-      let b = get_or kept.nodes k d in
-      let node = can.nodes b (list_any_at (λ c. c == b) kept.nodes k d lt (eq-eqb b b refl)) in
+      let b = get_or nodes_up k d in
+      let node = can.stands.nodes b (sym (has_node-sorted kept.nodes b) ∙ list_any_at (λ c. c == b) nodes_up k d lt (eq-eqb b b refl)) in
       let low = (stands x plain b node.insn node.len node.spelled).low in
       omega (arith, low)
 
@@ -69,8 +72,8 @@ module _ (x : Image) (kept : Kept) (plain : IsPlainImage x) (can : IsRewritable 
       let cr = code_room decode_first x kept room in
       let sr = stubs_room decode_first x kept room in
       let sl = stop_low decode_first x kept room plain in
-      let short = total_most decode_first x.loads kept.edges kept.nodes in
-      let many = length-fragments decode_first x.loads kept.edges kept.nodes in
+      let short = total_most decode_first (code_in x.loads) kept.edges nodes_up in
+      let many = length-fragments decode_first (code_in x.loads) kept.edges nodes_up in
       let total : total_len fs ≡ total_len frags = ap total_len e in
       let count : length fs ≡ length frags = ap length e in
       let code : r.code ≡ a.code = ap (λ (b : Added). b.code) f in
@@ -78,7 +81,7 @@ module _ (x : Image) (kept : Kept) (plain : IsPlainImage x) (can : IsRewritable 
       let stubs : r.stubs ≡ a.stubs = ap (λ (b : Added). b.stubs) f in
       let stop : r.stop ≡ a.stop = ap (λ (b : Added). b.stop) f in
       record {
-        ascending = subst (λ l. IsAscending l) (sym (ap nodes_of e ∙ nodes_of_fragments decode_first x.loads kept.edges kept.nodes)) can.ascending;
+        ascending = subst (λ l. IsAscending l) (sym (ap nodes_of e ∙ nodes_of_fragments decode_first (code_in x.loads) kept.edges nodes_up)) (IsAscending-sorted kept.nodes);
         tables = omega (arith, code, tables);
         code = omega (arith, cr, short, total, code, stubs);
         stubs = omega (arith, sr, many, count, stubs, stop);
@@ -88,7 +91,7 @@ module _ (x : Image) (kept : Kept) (plain : IsPlainImage x) (can : IsRewritable 
   -- parts that were laid out and emitted so
   pub record AreEmitted (fs : List Fragment) (nodes : List ℕ) (r : AddedRange) (p : Placing) (parts : Parts) (entry : ℕ) : Type 0 where
     pub frags_are : fs ≡ frags
-    pub nodes_are : nodes ≡ kept.nodes
+    pub nodes_are : nodes ≡ nodes_up
     pub range_as : range_of r ≡ a
     pub placing : IsPlacingOf p fs r.code r.stubs
     pub base : parts.base ≡ r.scratch
@@ -105,17 +108,17 @@ module _ (x : Image) (kept : Kept) (plain : IsPlainImage x) (can : IsRewritable 
     stubs_is = ap (λ (b : Added). b.stubs) are.range_as
 
     -- each label has the address that it is to have
-    labels : (to : Label) → address_in p to ≡ address_of frags kept.nodes a to
+    labels : (to : Label) → address_in p to ≡ address_of frags nodes_up a to
     labels to =
         are.placing a (sym code_is) (sym stubs_is) to
         ∙ ap (λ l. address_of l (nodes_of l) a to) are.frags_are
-        ∙ ap (λ l. address_of frags l a to) (nodes_of_fragments decode_first x.loads kept.edges kept.nodes)
+        ∙ ap (λ l. address_of frags l a to) (nodes_of_fragments decode_first (code_in x.loads) kept.edges nodes_up)
 
     bytes : fragments_bytes (address_in p) r.code fs ≡ code_of_nodes decode_first x kept
     bytes =
         ap (λ g. fragments_bytes g r.code fs) (fun_ext labels)
-        ∙ ap (λ from. fragments_bytes (address_of frags kept.nodes a) from fs) code_is
-        ∙ ap (λ l. fragments_bytes (address_of frags kept.nodes a) a.code l) are.frags_are
+        ∙ ap (λ from. fragments_bytes (address_of frags nodes_up a) from fs) code_is
+        ∙ ap (λ l. fragments_bytes (address_of frags nodes_up a) a.code l) are.frags_are
 
     tables_hold : parts.tables ≡ zeros (a.code - a.tables)
     tables_hold = are.tables ∙ ap (λ (b : Added). zeros (b.code - b.tables)) are.range_as
@@ -123,7 +126,7 @@ module _ (x : Image) (kept : Kept) (plain : IsPlainImage x) (can : IsRewritable 
     code_holds : parts.code ≡ filled (a.stubs - a.code) (code_of_nodes decode_first x kept)
     code_holds = are.code ∙ ap₂ filled (ap (λ (b : Added). b.stubs - b.code) are.range_as) bytes
 
-    stubs_hold : parts.stubs ≡ filled (a.stop - a.stubs) (all_stubs kept.nodes)
+    stubs_hold : parts.stubs ≡ filled (a.stop - a.stubs) (all_stubs nodes_up)
     stubs_hold = are.stubs ∙ ap₂ (λ k l. filled k (all_stubs l)) (ap (λ (b : Added). b.stop - b.stubs) are.range_as) are.nodes_are
 
     base_is : parts.base ≡ a.scratch
@@ -140,14 +143,14 @@ module _ (x : Image) (kept : Kept) (plain : IsPlainImage x) (can : IsRewritable 
 
     code_long : length (code_of_nodes decode_first x kept) ≤ a.stubs - a.code
     code_long =
-        let long = length-fragments_bytes (address_of frags kept.nodes a) a.code frags in
-        let short = total_most decode_first x.loads kept.edges kept.nodes in
+        let long = length-fragments_bytes (address_of frags nodes_up a) a.code frags in
+        let short = total_most decode_first (code_in x.loads) kept.edges nodes_up in
         let cr = code_room decode_first x kept room in
         omega (arith, long, short, cr)
 
     pub are_rewritten : IsRewritten decode_first x kept parts entry
     are_rewritten =
-        let inside = place_in_code decode_first x kept room x.entry can.entry in
+        let inside = place_in_code decode_first x kept room x.entry can.entry_kept in
         record {
           parts_added =
               record {

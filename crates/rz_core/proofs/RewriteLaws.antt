@@ -3,7 +3,7 @@ use Rattle.std.proofs.Common.{◌≡◌, ℕ, ◌+◌, ◌≤◌, List, length, 
 use Rattle.rz_elf.specs.declared.elf.Elf.{Elf}
 use Rattle.rz_machine.specs.declared.elf_write.Parts.{Parts}
 use Rattle.rz_machine.specs.Kept.{Kept}
-use Rattle.rz_elf.specs.Elf.{image_of}
+use Rattle.rz_elf.specs.Elf.{Image, image_of}
 use Rattle.rz_machine.specs.First.{decode_first}
 use Rattle.rz_machine.specs.TableLaws.{AreBytes}
 use Rattle.rz_machine.specs.Added.{Added, added}
@@ -11,7 +11,7 @@ use Rattle.rz_machine.specs.Keeps.{Keeps}
 use Rattle.rz_elf.specs.Loaded.{loaded}
 use Rattle.rz_machine.specs.ThinElf.{thin_elf}
 use Rattle.rz_elf.specs.PlainImage.{IsPlainImage}
-use Rattle.rz_machine.specs.Nodes.{IsPlausible}
+use Rattle.rz_machine.specs.Nodes.{code_in, IsPlausible}
 use Rattle.rz_machine.specs.Rewritten.{HasRoom, IsRewritten}
 use Rattle.rz_machine.specs.Thin.{IsThin, thin_base}
 use Rattle.rz_machine.specs.WrittenFile.{written_file, Inert}
@@ -22,12 +22,16 @@ use Rattle.rz_machine.proofs.RewrittenLaws.{lie}
 use Rattle.rz_machine.proofs.ThinKept.{thin_room, thin_kept}
 use Rattle.rz_machine.proofs.ThinLoads.{thin_fault, elf_of-thin}
 
-module _ (elf : Elf) (kept : Kept) (thin : IsThin elf.bytes) (bytes : AreBytes elf.bytes) (read : elf ≡ thin_elf elf.bytes) (can : IsRewritable decode_first (loaded elf) kept) where
+-- the condition of rewriting
+abbrev Can : Image → Kept → Type 0
+Can i kept = IsPlausible decode_first (code_in i.loads) i.entry kept
+
+module _ (elf : Elf) (kept : Kept) (thin : IsThin elf.bytes) (bytes : AreBytes elf.bytes) (read : elf ≡ thin_elf elf.bytes) (can : Can (loaded elf) kept) where
   image : loaded elf ≡ image_of elf.bytes
   image = ap loaded (read ∙ sym (elf_of-thin elf.bytes thin)) ∙ loaded-elf_of elf.bytes
 
-  can_image : IsRewritable decode_first (image_of elf.bytes) kept
-  can_image = subst (λ i. IsRewritable decode_first i kept) image can
+  can_image : Can (image_of elf.bytes) kept
+  can_image = subst (λ i. Can i kept) image can
 
   -- what is loaded of it is plain
   pub plain : IsPlainImage (loaded elf)

@@ -8,7 +8,7 @@ use Rattle.rz_sys.specs.Input.{empty_input}
 use Rattle.rz_machine.specs.Start.{start}
 use Rattle.rz_machine.specs.Begun.{recorded}
 use Rattle.rz_machine.specs.LeftCode.{StaysInCode}
-use Rattle.rz_machine.specs.Added.{added, sites, site_edges}
+use Rattle.rz_machine.specs.Added.{added, site_count, site_edge_count}
 use Rattle.rz_machine.specs.Keeps.{Keeps}
 use Rattle.rz_machine.specs.Recorded.{IsUncut}
 use Rattle.rz_machine.specs.WrittenFile.{Inert}
@@ -39,4 +39,4 @@ report_of limit x =
     let kept = kept_of limit x in
     let image = image_of x in
     report_text (added decode_first image kept).scratch (length kept.edges) (length kept.nodes)
-    (length (site_edges decode_first image.loads kept.edges)) (length (sites decode_first image.loads kept.nodes))
+    (site_edge_count decode_first image kept) (site_count decode_first image kept)

@@ -1,6 +1,6 @@
 -- What stands in the parts of a new file.
 use Rattle.std.specs.Prelude.{◌-◌}
-use Rattle.rz_machine.specs.Kept.{Kept}
+use Rattle.rz_machine.specs.Kept.{Kept, sorted}
 use Rattle.rz_image.specs.Memory.{zeros}
 use Rattle.rz_elf.specs.Elf.{Image}
 use Rattle.rz_machine.specs.Insn.{Decoder}
@@ -22,5 +22,5 @@ new_parts_of dec x kept =
       base = a.scratch;
       tables = zeros (a.code - a.tables);
       code = filled (a.stubs - a.code) (code_of_nodes dec x kept);
-      stubs = stubs_part a kept.nodes;
+      stubs = stubs_part a (sorted kept.nodes);
     }

@@ -4,7 +4,7 @@ ghost use Rattle.std.specs.Prelude.{◌≡◌, ◌+◌, ◌^◌, ◌<◌, [], �
 ghost use Rattle.rz_machine.specs.declared.items.Item.TheVariants as item;
 ghost use Rattle.rz_machine.specs.First.{decode_first, mov_number as mov_number_of};
 ghost use Rattle.rz_machine.specs.Fragments.{items_for, items_of, is_following as is_following_label, first_node, fragments, to_label, trimmed};
-ghost use Rattle.rz_machine.specs.Nodes.{spelled_at};
+ghost use Rattle.rz_machine.specs.Nodes.{code_in, spelled_at};
 ghost use Rattle.rz_machine.specs.TableLaws.{AreBytes};
 ghost use Rattle.rz_core.specs.Spellable.{IsDecodedSpellable, IsFragmentSpellable};
 
@@ -52,7 +52,7 @@ pub fn fragments_of(
     edges: &EdgeSet,
 ) -> Result<Fragments, OutOfMemory>
     requires low { All (λ a. a < 2 ^ 31) nodes.now }
-    ensures value { IfOk result (λ list. list ≡ fragments decode_first memory.now edges.now nodes.now) }
+    ensures value { IfOk result (λ list. list ≡ fragments decode_first (code_in memory.now) edges.now nodes.now) }
     ensures spellable { IfOk result (λ list. All IsFragmentSpellable list) }
 {
     let mut items = Vec::new(alloc);
@@ -67,7 +67,7 @@ pub fn fragments_of(
 
 // What the executable bytes at an address spell.
 fn decoded_at(memory: &Memory, at: u64) -> Decoded
-    ensures value { result ≡ spelled_at decode_first memory.now at }
+    ensures value { result ≡ spelled_at decode_first (code_in memory.now) at }
     ensures spellable { IsDecodedSpellable result }
 {
     let mut out = [0; 15];

@@ -7,7 +7,8 @@ ghost use Rattle.rz_machine.specs.Added.{added};
 ghost use Rattle.rz_machine.specs.Keeps.{Keeps};
 ghost use Rattle.rz_machine.specs.LeftCode.{StaysInCode};
 ghost use Rattle.rz_machine.specs.Recorded.{IsUncut};
-ghost use Rattle.rz_machine.specs.Nodes.{IsPlausible};
+ghost use Rattle.rz_machine.specs.Nodes.{code_in, IsPlausible};
+ghost use Rattle.rz_machine.specs.Traced.{kept_in};
 ghost use Rattle.rz_machine.specs.WrittenFile.{Inert};
 ghost use Rattle.rz_core.specs.Debloated.{IsDebloated, kept_of, traced, report_of};
 ghost use Rattle.rz_core.specs.Making.{IsOfThin, MakeRefused};
@@ -56,8 +57,8 @@ pub fn make(alloc: Global, elf: &Elf, limit: u64) -> Result<Made, MakeRefusal>
 fn record_run(alloc: Global, elf: &Elf, limit: u64) -> Result<Record, MakeRefusal>
     requires thin { IsOfThin elf.now }
     requires some { 1 ≤ limit }
-    ensures kept { IfOk result (λ kept. kept ≡ kept_of limit elf.now.bytes) }
-    ensures rewritable { IfOk result (λ kept. IsRewritable decode_first (loaded elf.now) kept) }
+    ensures kept { IfOk result (λ kept. kept_in kept ≡ kept_of limit elf.now.bytes) }
+    ensures plausible { IfOk result (λ kept. IsPlausible decode_first (code_in (loaded elf.now).loads) (loaded elf.now).entry (kept_in kept)) }
     ensures stays { OnOk result (StaysInCode decode_first limit (traced elf.now.bytes)) }
     ensures uncut { IfOk result (λ kept. IsUncut decode_first kept.edges (traced elf.now.bytes) limit) }
     ensures err { IfErr result (MakeRefused limit elf.now.bytes) }
@@ -74,10 +75,10 @@ fn record_run(alloc: Global, elf: &Elf, limit: u64) -> Result<Record, MakeRefusa
 // The new file of a thin file for what is kept, and the report of it.
 fn write_new(alloc: Global, elf: &Elf, kept: &Record) -> Result<Made, OutOfMemory>
     requires thin { IsOfThin elf.now }
-    requires rewritable { IsRewritable decode_first (loaded elf.now) kept.now }
-    ensures keeps { IfOk result (λ m. Keeps decode_first elf.now.bytes m.bytes kept.now) }
-    ensures inert { IfOk result (λ m. Inert decode_first elf.now.bytes m.bytes kept.now) }
-    ensures report { IfOk result (λ m. m.report ≡ report_text (added decode_first (loaded elf.now) kept.now).scratch (length kept.now.edges) (length kept.now.nodes) 0 0) }
+    requires plausible { IsPlausible decode_first (code_in (loaded elf.now).loads) (loaded elf.now).entry (kept_in kept.now) }
+    ensures keeps { IfOk result (λ m. Keeps decode_first elf.now.bytes m.bytes (kept_in kept.now)) }
+    ensures inert { IfOk result (λ m. Inert decode_first elf.now.bytes m.bytes (kept_in kept.now)) }
+    ensures report { IfOk result (λ m. m.report ≡ report_text (added decode_first (loaded elf.now) (kept_in kept.now)).scratch (length kept.now.edges) (length kept.now.nodes) 0 0) }
 {
     let New { bytes, base } = rewrite(alloc, elf, kept)?;
     let edges = kept.edges.len() as u64;

@@ -2,14 +2,16 @@
 
 ghost use Rattle.std.specs.Prelude.{◌≡◌, ◌+◌, ◌-◌, ◌*◌, ◌^◌, ◌<◌, ◌≤◌, ◌++◌, length, replicate, All, IfOk};
 ghost use Rattle.rz_image.specs.Memory.{zeros};
-ghost use Rattle.rz_machine.specs.Added.{added, all_stubs, filled as filled_with};
+ghost use Rattle.rz_machine.specs.Added.{added, node_count, all_stubs, filled as filled_with};
 ghost use Rattle.rz_machine.specs.First.{decode_first};
 ghost use Rattle.rz_machine.specs.Fragments.{fragments_bytes, total_len};
 ghost use Rattle.rz_machine.specs.Keeps.{Keeps};
 ghost use Rattle.rz_elf.specs.Loaded.{loaded};
 ghost use Rattle.rz_machine.specs.ThinElf.{thin_elf};
 ghost use Rattle.rz_elf.specs.PlainImage.{IsPlainImage};
-ghost use Rattle.rz_machine.specs.Nodes.{IsPlausible};
+ghost use Rattle.rz_machine.specs.Nodes.{code_in, IsPlausible};
+ghost use Rattle.rz_machine.specs.Kept.{sorted};
+ghost use Rattle.rz_machine.specs.Traced.{kept_in};
 ghost use Rattle.rz_machine.specs.Rewritten.{HasRoom, IsRewritten, fragments_of as frags_of, place_of};
 ghost use Rattle.rz_machine.specs.Thin.{IsThin};
 ghost use Rattle.rz_machine.specs.WrittenFile.{written_file, Inert};
@@ -44,11 +46,11 @@ pub struct New {
 pub fn rewrite(alloc: Global, elf: &Elf, kept: &Record) -> Result<New, OutOfMemory>
     requires thin { IsThin elf.now.bytes }
     requires read { elf.now ≡ thin_elf elf.now.bytes }
-    requires rewritable { IsRewritable decode_first (loaded elf.now) kept.now }
-    ensures file { IfOk result (λ new. new.bytes ≡ written_file elf.now.bytes (new_parts_of decode_first (loaded elf.now) kept.now) (place_of decode_first (loaded elf.now) kept.now elf.now.entry)) }
-    ensures keeps { IfOk result (λ new. Keeps decode_first elf.now.bytes new.bytes kept.now) }
-    ensures inert { IfOk result (λ new. Inert decode_first elf.now.bytes new.bytes kept.now) }
-    ensures base { IfOk result (λ new. new.base ≡ (added decode_first (loaded elf.now) kept.now).scratch) }
+    requires plausible { IsPlausible decode_first (code_in (loaded elf.now).loads) (loaded elf.now).entry (kept_in kept.now) }
+    ensures file { IfOk result (λ new. new.bytes ≡ written_file elf.now.bytes (new_parts_of decode_first (loaded elf.now) (kept_in kept.now)) (place_of decode_first (loaded elf.now) (kept_in kept.now) elf.now.entry)) }
+    ensures keeps { IfOk result (λ new. Keeps decode_first elf.now.bytes new.bytes (kept_in kept.now)) }
+    ensures inert { IfOk result (λ new. Inert decode_first elf.now.bytes new.bytes (kept_in kept.now)) }
+    ensures base { IfOk result (λ new. new.base ≡ (added decode_first (loaded elf.now) (kept_in kept.now)).scratch) }
 {
     are_bytes(elf.bytes.as_slice());
     let NewParts { parts, entry } = new_parts(alloc, elf, kept)?;
@@ -69,15 +71,15 @@ pub struct NewParts {
 /// The parts of the new file of what is kept. It refuses for want of memory alone.
 pub fn new_parts(alloc: Global, elf: &Elf, kept: &Record) -> Result<NewParts, OutOfMemory>
     requires plain { IsPlainImage (loaded elf.now) }
-    requires rewritable { IsRewritable decode_first (loaded elf.now) kept.now }
-    requires room { HasRoom decode_first (loaded elf.now) kept.now }
-    ensures parts { IfOk result (λ new. new.parts ≡ new_parts_of decode_first (loaded elf.now) kept.now) }
-    ensures entry { IfOk result (λ new. new.entry ≡ place_of decode_first (loaded elf.now) kept.now elf.now.entry) }
-    ensures rewritten { IfOk result (λ new. IsRewritten decode_first (loaded elf.now) kept.now new.parts new.entry) }
+    requires plausible { IsPlausible decode_first (code_in (loaded elf.now).loads) (loaded elf.now).entry (kept_in kept.now) }
+    requires room { HasRoom decode_first (loaded elf.now) (kept_in kept.now) }
+    ensures parts { IfOk result (λ new. new.parts ≡ new_parts_of decode_first (loaded elf.now) (kept_in kept.now)) }
+    ensures entry { IfOk result (λ new. new.entry ≡ place_of decode_first (loaded elf.now) (kept_in kept.now) elf.now.entry) }
+    ensures rewritten { IfOk result (λ new. IsRewritten decode_first (loaded elf.now) (kept_in kept.now) new.parts new.entry) }
 {
-    let words = kept.nodes.to_words(alloc)?;
+    let words = kept.nodes.sorted(alloc)?;
     let nodes = words.as_slice();
-    let range = new_range(elf, kept);
+    let range = new_range(elf, kept, nodes.len() as u64);
     let fragments = kept_fragments(alloc, elf, kept, nodes)?;
     let list = fragments.as_slice();
     let layout = lay_out(alloc, list, range.code, range.stubs)?;
@@ -86,15 +88,16 @@ pub fn new_parts(alloc: Global, elf: &Elf, kept: &Record) -> Result<NewParts, Ou
     Ok(NewParts { parts, entry })
 }
 
-// Where the parts of what is kept lie.
-fn new_range(elf: &Elf, kept: &Record) -> AddedRange
+// Where the parts of what is kept lie, which has this many nodes.
+fn new_range(elf: &Elf, kept: &Record, count: u64) -> AddedRange
     requires plain { IsPlainImage (loaded elf.now) }
-    requires rewritable { IsRewritable decode_first (loaded elf.now) kept.now }
-    requires room { HasRoom decode_first (loaded elf.now) kept.now }
-    ensures { range_of result ≡ added decode_first (loaded elf.now) kept.now }
+    requires plausible { IsPlausible decode_first (code_in (loaded elf.now).loads) (loaded elf.now).entry (kept_in kept.now) }
+    requires room { HasRoom decode_first (loaded elf.now) (kept_in kept.now) }
+    requires count { count ≡ node_count (kept_in kept.now) }
+    ensures { range_of result ≡ added decode_first (loaded elf.now) (kept_in kept.now) }
 {
     let lowest = lowest_load(elf.loads.as_slice());
-    parts_below(kept.nodes.len() as u64, page_floor(lowest))
+    parts_below(count, page_floor(lowest))
 }
 
 // The fragments of what is kept, whose nodes are these.
@@ -105,10 +108,10 @@ fn kept_fragments(
     nodes: &[u64],
 ) -> Result<Fragments, OutOfMemory>
     requires plain { IsPlainImage (loaded elf.now) }
-    requires rewritable { IsRewritable decode_first (loaded elf.now) kept.now }
-    requires room { HasRoom decode_first (loaded elf.now) kept.now }
-    requires nodes { nodes.now ≡ kept.now.nodes }
-    ensures value { IfOk result (λ list. list ≡ frags_of decode_first (loaded elf.now) kept.now) }
+    requires plausible { IsPlausible decode_first (code_in (loaded elf.now).loads) (loaded elf.now).entry (kept_in kept.now) }
+    requires room { HasRoom decode_first (loaded elf.now) (kept_in kept.now) }
+    requires nodes { nodes.now ≡ sorted kept.now.nodes }
+    ensures value { IfOk result (λ list. list ≡ frags_of decode_first (loaded elf.now) (kept_in kept.now)) }
     ensures spellable { IfOk result (λ list. All IsFragmentSpellable list) }
 {
     let memory = Memory::new(load_regions(alloc, elf)?);

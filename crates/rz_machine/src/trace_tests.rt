@@ -40,7 +40,7 @@ fn traces_a_greeting(rt: HostRuntime) -> Result<(), Fail> {
     let elf = program(alloc, &code)?;
     let mut rec = Record::new(alloc);
     trace::<First>(alloc, &elf, &Input::empty(alloc), 1_000_000_000, &mut rec)?;
-    let nodes = rec.nodes.to_words(alloc)?;
+    let nodes = rec.nodes.sorted(alloc)?;
     let begun = [
         0x40_1000, 0x40_1005, 0x40_100a, 0x40_100f, 0x40_1014, 0x40_1016, 0x40_101b, 0x40_1020,
     ];
@@ -102,7 +102,7 @@ fn sets_ascend(rt: HostRuntime) -> Result<(), Fail> {
     }
     assert!(rt; !nodes.insert(3)?);
     assert!(rt; edges.insert((3, 9))?);
-    assert_eq!(rt; nodes.to_words(alloc)?.as_slice(), [3, 5, 7].as_slice());
+    assert_eq!(rt; nodes.sorted(alloc)?.as_slice(), [3, 5, 7].as_slice());
     assert_eq!(rt;
         edges.to_pairs(alloc)?.as_slice(),
         [(3, 9), (9, 3), (9, 5), (9, 7)].as_slice()

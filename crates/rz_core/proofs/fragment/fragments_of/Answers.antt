@@ -2,7 +2,7 @@ use Rattle.std.proofs.Common.{◌≡◌, get_or, take_all, subst, ◌∙◌}
 use Rattle.std.specs.List.{All}
 use Rattle.std.proofs.lemmas.List.Elements.{All-more, All-same}
 use Rattle.rz_machine.specs.First.{decode_first}
-use Rattle.rz_machine.specs.Nodes.{spelled_at}
+use Rattle.rz_machine.specs.Nodes.{code_in, spelled_at}
 use Rattle.rz_machine.specs.Fragments.{fragments}
 use Rattle.rz_core.specs.Spellable.{IsDecodedSpellable, IsFragmentSpellable}
 use Rattle.rz_core.proofs.FragmentLaws.{fragments_spellable}
@@ -11,7 +11,7 @@ use Rattle.rz_core.proofs.fragment.fragments_of.Goals as goal
 
 pub loop-i-preserved : goal.loop-i-preserved
 loop-i-preserved c =
-    let m = c.args.memory.now in
+    let m = code_in c.args.memory.now in
     let nodes = c.args.nodes.now in
     let i = c.loop-i.i in
     let decoded = c.decoded_at-decoded in
@@ -25,7 +25,7 @@ loop-i-preserved c =
 
 pub returns : goal.returns
 returns c =
-    let m = c.args.memory.now in
+    let m = code_in c.args.memory.now in
     let edges = c.args.edges.now in
     let nodes = c.args.nodes.now in
     let value : c.loop-i.items.items ≡ fragments decode_first m edges nodes = all_fragments decode_first m edges nodes c.loop-i.i c.loop-i.items.items c.loop-i-test.false c.loop-i.invariant.value in

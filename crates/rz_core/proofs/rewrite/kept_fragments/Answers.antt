@@ -2,6 +2,7 @@ use Rattle.std.proofs.Common.{◌^◌, ◌<◌, subst, sym}
 use Rattle.std.specs.List.{All}
 use Rattle.rz_elf.specs.Loaded.{loaded}
 use Rattle.rz_core.proofs.NewPartsLaws.{nodes_low}
+use Rattle.rz_machine.specs.Traced.{kept_in}
 use Rattle.rz_core.proofs.rewrite.kept_fragments.Goals as goal
 
 pub fragments_of-requires : goal.fragments_of-requires
@@ -9,5 +10,5 @@ fragments_of-requires c =
     record {
       low =
           subst (λ l. All (λ b. b < 2 ^ 31) l) (sym c.requires.nodes)
-          (nodes_low (loaded c.args.elf.now) c.args.kept.now c.requires.plain c.requires.rewritable c.requires.room);
+          (nodes_low (loaded c.args.elf.now) (kept_in c.args.kept.now) c.requires.plain c.requires.plausible c.requires.room);
     }
