@@ -6,8 +6,10 @@ use Rattle.rz_machine.specs.declared.items.Label.TheVariants as label
 use Rattle.rz_machine.specs.declared.trace.Record.{Record}
 use Rattle.rz_machine.specs.Insn.{Decoder}
 use Rattle.rz_elf.specs.Elf.{Image}
-use Rattle.rz_machine.specs.Added.{Added, added, lowest, page_floor, all_stubs, sites, site_edges, tables_size, code_size, stubs_size}
-use Rattle.rz_machine.specs.WrittenFile.{Parts, IsAdded}
+use Rattle.rz_elf.specs.AddedRange.{Added, lowest, page_floor, all_stubs, tables_size, code_size, stubs_size}
+use Rattle.rz_machine.specs.Added.{added, sites, site_edges}
+use Rattle.rz_elf.specs.WrittenFile.{Parts}
+use Rattle.rz_machine.specs.WrittenFile.{IsAdded}
 use Rattle.rz_machine.specs.Rewritable.{has_node}
 use Rattle.rz_machine.specs.Fragments.{address_of}
 use Rattle.rz_elf.specs.PlainImage.{IsPlainImage}

@@ -8,8 +8,10 @@ use Rattle.rz_machine.specs.declared.trace.Record.{Record}
 use Rattle.rz_image.specs.Memory.{IsInside}
 use Rattle.rz_elf.specs.Elf.{Image, image_of}
 use Rattle.rz_machine.specs.Insn.{Decoder}
-use Rattle.rz_machine.specs.Added.{sites, site_edges, scratch_size, tables_size, code_size, stubs_size, lowest, page_floor, added, layout_of}
-use Rattle.rz_machine.specs.WrittenFile.{Parts, IsAdded, new_image, written_file, Inert}
+use Rattle.rz_elf.specs.AddedRange.{scratch_size, tables_size, code_size, stubs_size, lowest, page_floor}
+use Rattle.rz_machine.specs.Added.{sites, site_edges, added, layout_of}
+use Rattle.rz_elf.specs.WrittenFile.{Parts, new_image, written_file}
+use Rattle.rz_machine.specs.WrittenFile.{IsAdded, Inert}
 use Rattle.rz_machine.specs.Start.{start}
 use Rattle.rz_machine.specs.Thin.{IsThin}
 use Rattle.rz_machine.specs.Keeps.{KeepsRun, Keeps}
