@@ -2,7 +2,7 @@
 use Rattle.std.proofs.Common.{◌≡◌, ℕ, ◌+◌, ◌-◌, ◌<◌, ◌≤◌, List, [], ◌∷◌, length, get_or, drop, take, map, min, refl, sym, ap, ◌∙◌, arith, add-one, drop-cons, take_all}
 use Rattle.std.proofs.lemmas.List.{drop_all}
 use Rattle.rz_elf.specs.declared.elf.Load.{Load}
-use Rattle.rz_machine.specs.Added.{lowest}
+use Rattle.rz_elf.specs.AddedRange.{lowest}
 use Rattle.rz_elf.specs.Loaded.{loaded_region}
 
 -- the least of an address and those of loads

@@ -12,8 +12,9 @@ use Rattle.rz_image.specs.Memory.{zeros}
 use Rattle.rz_elf.specs.Elf.{Image}
 use Rattle.rz_machine.specs.First.{decode_first}
 use Rattle.rz_machine.specs.Fragments.{fragments_bytes, address_of, total_len}
-use Rattle.rz_machine.specs.Added.{Added, node_count, added, tables_size, code_size, stubs_size, page_floor, lowest, parts_below, all_stubs, filled}
-use Rattle.rz_machine.specs.declared.elf_write.Parts.{Parts}
+use Rattle.rz_machine.specs.Added.{node_count, added}
+use Rattle.rz_elf.specs.AddedRange.{Added, tables_size, code_size, stubs_size, page_floor, lowest, parts_below, all_stubs, filled}
+use Rattle.rz_elf.specs.WrittenFile.{Parts}
 use Rattle.rz_machine.specs.Nodes.{code_in, IsPlausible}
 use Rattle.rz_elf.specs.PlainImage.{IsPlainImage}
 use Rattle.rz_machine.specs.Rewritten.{HasRoom, IsRewritten, fragments_of, place_of, code_of_nodes}

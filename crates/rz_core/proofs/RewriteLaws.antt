@@ -1,12 +1,13 @@
 -- The new file of a thin file.
 use Rattle.std.proofs.Common.{◌≡◌, ℕ, ◌+◌, ◌≤◌, List, length, sym, ap, ◌∙◌, subst, arith}
 use Rattle.rz_elf.specs.declared.elf.Elf.{Elf}
-use Rattle.rz_machine.specs.declared.elf_write.Parts.{Parts}
+use Rattle.rz_elf.specs.WrittenFile.{Parts, written_file}
 use Rattle.rz_machine.specs.Kept.{Kept}
 use Rattle.rz_elf.specs.Elf.{Image, image_of}
 use Rattle.rz_machine.specs.First.{decode_first}
 use Rattle.rz_machine.specs.TableLaws.{AreBytes}
-use Rattle.rz_machine.specs.Added.{Added, added}
+use Rattle.rz_elf.specs.AddedRange.{Added}
+use Rattle.rz_machine.specs.Added.{added}
 use Rattle.rz_machine.specs.Keeps.{Keeps}
 use Rattle.rz_elf.specs.Loaded.{loaded}
 use Rattle.rz_machine.specs.ThinElf.{thin_elf}
@@ -14,7 +15,7 @@ use Rattle.rz_elf.specs.PlainImage.{IsPlainImage}
 use Rattle.rz_machine.specs.Nodes.{code_in, IsPlausible}
 use Rattle.rz_machine.specs.Rewritten.{HasRoom, IsRewritten}
 use Rattle.rz_machine.specs.Thin.{IsThin, thin_base}
-use Rattle.rz_machine.specs.WrittenFile.{written_file, Inert}
+use Rattle.rz_machine.specs.WrittenFile.{Inert}
 use Rattle.rz_machine.proofs.AddedLaws.{added-thin}
 use Rattle.rz_elf.proofs.PlainAccepted.{accepted_plain}
 use Rattle.rz_elf.proofs.Reading.{loaded-elf_of}

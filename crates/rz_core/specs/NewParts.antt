@@ -4,9 +4,9 @@ use Rattle.rz_machine.specs.Kept.{Kept, sorted}
 use Rattle.rz_image.specs.Memory.{zeros}
 use Rattle.rz_elf.specs.Elf.{Image}
 use Rattle.rz_machine.specs.Insn.{Decoder}
-use Rattle.rz_machine.specs.Added.{Added, added, filled}
-use Rattle.rz_machine.specs.declared.elf_write.Parts.{Parts}
-use Rattle.rz_machine.specs.WrittenFile.{stubs_part}
+use Rattle.rz_elf.specs.AddedRange.{Added, filled, stubs_part}
+use Rattle.rz_machine.specs.Added.{added}
+use Rattle.rz_elf.specs.WrittenFile.{Parts}
 use Rattle.rz_machine.specs.Rewritten.{code_of_nodes}
 use Rattle.rz_core.specs.declared.added.AddedRange.{AddedRange}
 

@@ -4,7 +4,8 @@ use Rattle.rz_machine.specs.declared.items.Label.{Label}
 use Rattle.rz_machine.specs.declared.items.Label.TheVariants as label
 use Rattle.rz_machine.specs.declared.items.Fragment.{Fragment}
 use Rattle.rz_machine.specs.Fragments.{items_len, address_of}
-use Rattle.rz_machine.specs.Added.{Added, index_of}
+use Rattle.rz_machine.specs.Added.{index_of}
+use Rattle.rz_elf.specs.AddedRange.{Added, stub_size}
 use Rattle.rz_machine.specs.Kept.{IsAscending}
 
 -- the addresses of the instructions that the fragments stand for
@@ -25,13 +26,13 @@ pub record Placing : Type 0 where
 -- the address of a label: the place beside the node, or the stub of the node's rank
 abbrev pub address_in : Placing → Label → ℕ
 address_in p (label.Place a) = get_or p.places (index_of p.nodes a) 0
-address_in p (label.Stub a) = p.stubs + 24 * index_of p.nodes a
+address_in p (label.Stub a) = p.stubs + stub_size * index_of p.nodes a
 
 -- ascending nodes, and all addresses below 2^31
 pub record IsLaidOut (p : Placing) : Type 0 where
   pub ascending : IsAscending p.nodes
   pub low_places : All (λ place. place < 2 ^ 31) p.places
-  pub low_stubs : p.stubs + 24 * length p.nodes < 2 ^ 31
+  pub low_stubs : p.stubs + stub_size * length p.nodes < 2 ^ 31
 
 -- the address of each label, for fragments from `code` on and stubs from `stubs` on
 abbrev pub IsPlacingOf : Placing → List Fragment → ℕ → ℕ → Type 0

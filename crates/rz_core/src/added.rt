@@ -1,10 +1,11 @@
 //! The added range: where the parts of a new file lie, below the lowest load.
 
 ghost use Rattle.std.specs.Prelude.{◌≡◌, ℕ, ◌+◌, ◌^◌, ◌<◌, ◌≤◌, List, map};
-ghost use Rattle.rz_machine.specs.Added.{tables_size, code_size, stubs_size, lowest, page_floor as floor_of, parts_below as parts_under};
+ghost use Rattle.rz_elf.specs.AddedRange.{tables_size, code_size, stubs_size, lowest, page_floor as floor_of, parts_below as parts_under};
 ghost use Rattle.rz_elf.specs.Loaded.{loaded_region};
 ghost use Rattle.rz_core.specs.NewParts.{range_of};
 
+use crate::emit::STUB_SIZE;
 use rz_elf::elf::Load;
 use rz_num::page_up;
 
@@ -27,7 +28,7 @@ pub fn parts_below(nodes: u64, stop: u64) -> AddedRange
     requires room { 4096 + tables_size 0 0 + code_size nodes 0 0 + stubs_size nodes ≤ stop }
     ensures { range_of result ≡ parts_under (tables_size 0 0) (code_size nodes 0 0) (stubs_size nodes) stop }
 {
-    let stubs = stop - page_up(24 * nodes);
+    let stubs = stop - page_up(STUB_SIZE * nodes);
     let code = stubs - page_up(32 * nodes + 512);
     let tables = code - page_up(1);
     AddedRange {

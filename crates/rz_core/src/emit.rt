@@ -1,7 +1,7 @@
 //! Emission: the bytes of fragments and of stubs.
 
 ghost use Rattle.std.specs.Prelude.{◌≡◌, ◌+◌, ◌^◌, ◌<◌, ◌++◌, All, IfOk, OnOk};
-ghost use Rattle.rz_machine.specs.Added.{all_stubs, stub_bytes};
+ghost use Rattle.rz_elf.specs.AddedRange.{all_stubs, stub_bytes};
 ghost use Rattle.rz_machine.specs.First.{spelling};
 ghost use Rattle.rz_machine.specs.Fragments.{fragments_bytes, items_bytes, items_len as len_of_items, item_len as len_of_item, resolved as resolved_item, total_len};
 ghost use Rattle.rz_core.specs.Places.{address_in};
@@ -13,6 +13,9 @@ use rz_machine::insn::Insn;
 use rz_machine::items::{Fragment, Item};
 use rz_num::{Bytes, OutOfMemory};
 use std::alloc::Global;
+
+/// The size of a stub, in bytes.
+pub const STUB_SIZE: u64 = 24;
 
 /// The bytes of fragments, one after the other from the address `code` on, each jump to its label's address in the
 /// layout. It refuses for want of memory alone.

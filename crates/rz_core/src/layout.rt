@@ -1,11 +1,13 @@
 //! Layout: where the fragments and the stubs stand.
 
 ghost use Rattle.std.specs.Prelude.{◌≡◌, ◌+◌, ◌*◌, ◌^◌, ◌<◌, ◌≤◌, length, slice_index, IfOk};
+ghost use Rattle.rz_elf.specs.AddedRange.{stub_size};
 ghost use Rattle.rz_machine.specs.Added.{index_of};
 ghost use Rattle.rz_machine.specs.Fragments.{item_len as len_of_item, items_len as len_of_items, total_len};
 ghost use Rattle.rz_machine.specs.Kept.{IsAscending};
 ghost use Rattle.rz_core.specs.Places.{address_in, nodes_of, IsPlacingOf};
 
+use crate::emit::STUB_SIZE;
 use rz_machine::encode::encoded_len;
 use rz_machine::items::{Fragment, Item, Label};
 use rz_num::OutOfMemory;
@@ -38,7 +40,7 @@ impl Layout {
     {
         match *to {
             Label::Place(a) => place(&self.places, rank(&self.nodes, a)),
-            Label::Stub(a) => self.stubs + 24 * rank(&self.nodes, a) as u64,
+            Label::Stub(a) => self.stubs + STUB_SIZE * rank(&self.nodes, a) as u64,
         }
     }
 }
@@ -53,7 +55,7 @@ pub fn lay_out(
 ) -> Result<Layout, OutOfMemory>
     requires ascending { IsAscending (nodes_of fragments.now) }
     requires low_code { code + total_len fragments.now < 2 ^ 31 }
-    requires low_stubs { stubs + 24 * length fragments.now < 2 ^ 31 }
+    requires low_stubs { stubs + stub_size * length fragments.now < 2 ^ 31 }
     ensures { IfOk result (λ placed. IsPlacingOf placed fragments.now code stubs) }
 {
     let mut nodes = Vec::new(alloc);

@@ -2,7 +2,8 @@
 
 ghost use Rattle.std.specs.Prelude.{◌≡◌, ◌+◌, ◌-◌, ◌*◌, ◌^◌, ◌<◌, ◌≤◌, ◌++◌, length, replicate, All, IfOk};
 ghost use Rattle.rz_image.specs.Memory.{zeros};
-ghost use Rattle.rz_machine.specs.Added.{added, node_count, all_stubs, filled as filled_with};
+ghost use Rattle.rz_machine.specs.Added.{added, node_count};
+ghost use Rattle.rz_elf.specs.AddedRange.{all_stubs, filled as filled_with, stub_size};
 ghost use Rattle.rz_machine.specs.First.{decode_first};
 ghost use Rattle.rz_machine.specs.Fragments.{fragments_bytes, total_len};
 ghost use Rattle.rz_machine.specs.Keeps.{Keeps};
@@ -14,7 +15,8 @@ ghost use Rattle.rz_machine.specs.Kept.{sorted};
 ghost use Rattle.rz_machine.specs.Traced.{kept_in};
 ghost use Rattle.rz_machine.specs.Rewritten.{HasRoom, IsRewritten, fragments_of as frags_of, place_of};
 ghost use Rattle.rz_machine.specs.Thin.{IsThin};
-ghost use Rattle.rz_machine.specs.WrittenFile.{written_file, Inert};
+ghost use Rattle.rz_elf.specs.WrittenFile.{written_file};
+ghost use Rattle.rz_machine.specs.WrittenFile.{Inert};
 ghost use Rattle.rz_core.specs.NewParts.{range_of, new_parts_of};
 ghost use Rattle.rz_core.specs.Places.{address_in};
 ghost use Rattle.rz_core.specs.Spellable.{IsFragmentSpellable};
@@ -128,7 +130,7 @@ fn emit_parts(
 ) -> Result<Parts, OutOfMemory>
     requires tables { range.now.tables ≤ range.now.code }
     requires code { range.now.code + total_len fragments.now ≤ range.now.stubs }
-    requires stubs { range.now.stubs + 24 * length nodes.now ≤ range.now.stop }
+    requires stubs { range.now.stubs + stub_size * length nodes.now ≤ range.now.stop }
     requires low { range.now.stop < 2 ^ 31 }
     requires spellable { All IsFragmentSpellable fragments.now }
     ensures base { IfOk result (λ parts. parts.base ≡ range.now.scratch) }

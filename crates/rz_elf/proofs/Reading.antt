@@ -50,6 +50,20 @@ module _ (x : List ℕ) where
       let ls = load_conditions (file_header x).entry (loads x) in
       first_of_none of_headers (first_none of_headers ls (second_none of_file (of_headers ++ ls) (none_holds (of_file ++ (of_headers ++ ls)) h)))
 
+  -- nor as a whole
+  pub file_faultless : fault_of x ≡ None → None ≡ first_of of_file
+  unfolding fault_of
+  file_faultless h =
+      let rest = of_headers ++ load_conditions (file_header x).entry (loads x) in
+      sym (first_of_none of_file (first_none of_file rest (none_holds (of_file ++ rest) h)))
+
+  -- nor at its loads
+  pub loads_faultless : fault_of x ≡ None → first_of (load_conditions (file_header x).entry (loads x)) ≡ None
+  unfolding fault_of
+  loads_faultless h =
+      let ls = load_conditions (file_header x).entry (loads x) in
+      first_of_none ls (second_none of_headers ls (second_none of_file (of_headers ++ ls) (none_holds (of_file ++ (of_headers ++ ls)) h)))
+
   -- the program headers are in the file
   pub table_fits : None ≡ first_of of_file → (file_header x).table_at + 56 * (file_header x).count ≤ length x
   table_fits h = let t = (none_holds of_file (sym h)).1.1.1.1.1.1.1.1.1.1.1.0 in grind (arith, nat_tests, t)

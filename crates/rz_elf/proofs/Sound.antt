@@ -2,26 +2,34 @@
 use Rattle.std.proofs.Common.{◌≡◌, ℕ, ◌+◌, ◌-◌, ◌/◌, ◌<◌, ◌≤◌, Bool, true, false, not, ◌&&◌, if◌then◌else◌, nat_lt, nat_le, ◌==◌, List, [], ◌∷◌, filter, None, refl, sym, ap, ◌∙◌, arith}
 use Rattle.std.specs.List.{AllByRecursion}
 use Rattle.std.proofs.lemmas.Bool.Decides.{nat_tests}
+use Rattle.rz_elf.specs.declared.fault.ElfFault.{ElfFault}
 use Rattle.rz_elf.specs.declared.fault.ElfFault.TheVariants as fault
 use Rattle.rz_elf.specs.Elf.{Segment, Placed, is_load, against, each, of_segment, is_dynamic, is_stack_code, has_other_flags, is_writable_code, is_larger_in_file, leaves_file, is_misaligned, is_far, isnt_above, shares_page, header_conditions, first_of}
 use Rattle.rz_elf.specs.Loaded.{is_load_header, IsLow}
-use Rattle.rz_elf.proofs.Conditions.{none_holds, first_none, second_none, each_none}
+use Rattle.rz_elf.proofs.Conditions.{NoneHolds, NoneHolds-append, NoneHolds-each, none_holds, first_none, second_none, each_none}
 
--- what the conditions on one header say of it
+-- no condition on program headers holds of one in a file of so many bytes
 pub record IsSound (len : ℕ) (p : Placed) : Type 0 where
+  pub fixed_place : is_dynamic p.segment ≡ false
+  pub plain_stack : is_stack_code p.segment ≡ false
   pub flags : has_other_flags p.segment ≡ false
   pub fixed : is_writable_code p.segment ≡ false
   pub small : is_larger_in_file p.segment ≡ false
   pub stored : leaves_file len p.segment ≡ false
+  pub aligned : is_misaligned p.segment ≡ false
   pub near : is_far p.segment ≡ false
   pub above : against isnt_above p ≡ false
   pub apart : against shares_page p ≡ false
 
+-- a test of headers that none passes
+abbrev NonePasses : (Placed → Bool) → List Placed → Type 0
+NonePasses test ps = AllByRecursion (λ p. test p ≡ false) ps
+
 -- the conditions together
-together : (len : ℕ) (ps : List Placed) → AllByRecursion (λ p. has_other_flags p.segment ≡ false) ps → AllByRecursion (λ p. is_writable_code p.segment ≡ false) ps → AllByRecursion (λ p. is_larger_in_file p.segment ≡ false) ps → AllByRecursion (λ p. leaves_file len p.segment ≡ false) ps → AllByRecursion (λ p. is_far p.segment ≡ false) ps → AllByRecursion (λ p. against isnt_above p ≡ false) ps → AllByRecursion (λ p. against shares_page p ≡ false) ps → AllByRecursion (IsSound len) ps
-together len [] a b c d e f g = tt
-together len (p ∷ ps) a b c d e f g =
-    (record { flags = a.0; fixed = b.0; small = c.0; stored = d.0; near = e.0; above = f.0; apart = g.0 }, together len ps a.1 b.1 c.1 d.1 e.1 f.1 g.1)
+together : (len : ℕ) (ps : List Placed) → NonePasses (of_segment is_dynamic) ps → NonePasses (of_segment is_stack_code) ps → NonePasses (of_segment has_other_flags) ps → NonePasses (of_segment is_writable_code) ps → NonePasses (of_segment is_larger_in_file) ps → NonePasses (of_segment (leaves_file len)) ps → NonePasses (of_segment is_misaligned) ps → NonePasses (of_segment is_far) ps → NonePasses (against isnt_above) ps → NonePasses (against shares_page) ps → AllByRecursion (IsSound len) ps
+together len [] a b c d e f g h i j = tt
+together len (p ∷ ps) a b c d e f g h i j =
+    (record { fixed_place = a.0; plain_stack = b.0; flags = c.0; fixed = d.0; small = e.0; stored = f.0; aligned = g.0; near = h.0; above = i.0; apart = j.0 }, together len ps a.1 b.1 c.1 d.1 e.1 f.1 g.1 h.1 i.1 j.1)
 
 -- headers without a fault
 pub sound : (len : ℕ) (ps : List Placed) → first_of (header_conditions len ps) ≡ None → AllByRecursion (IsSound len) ps
@@ -36,16 +44,35 @@ sound len ps none =
     let c8 = each (of_segment is_far) fault.Address ps in
     let c9 = each (against isnt_above) fault.Order ps in
     let h1 = none_holds (header_conditions len ps) none in
-    let h3 = second_none c2 _ (second_none c1 _ h1) in
+    let h2 = second_none c1 _ h1 in
+    let h3 = second_none c2 _ h2 in
     let h4 = second_none c3 _ h3 in
     let h5 = second_none c4 _ h4 in
     let h6 = second_none c5 _ h5 in
-    let h8 = second_none c7 _ (second_none c6 _ h6) in
+    let h7 = second_none c6 _ h6 in
+    let h8 = second_none c7 _ h7 in
     let h9 = second_none c8 _ h8 in
-    together len ps (each_none (of_segment has_other_flags) fault.Flags ps (first_none c3 _ h3)) (each_none (of_segment is_writable_code) fault.WritableCode ps (first_none c4 _ h4))
+    together len ps (each_none (of_segment is_dynamic) fault.Dynamic ps (first_none c1 _ h1)) (each_none (of_segment is_stack_code) fault.StackCode ps (first_none c2 _ h2))
+    (each_none (of_segment has_other_flags) fault.Flags ps (first_none c3 _ h3)) (each_none (of_segment is_writable_code) fault.WritableCode ps (first_none c4 _ h4))
     (each_none (of_segment is_larger_in_file) fault.SizeOrder ps (first_none c5 _ h5)) (each_none (of_segment (leaves_file len)) fault.FileRange ps (first_none c6 _ h6))
-    (each_none (of_segment is_far) fault.Address ps (first_none c8 _ h8)) (each_none (against isnt_above) fault.Order ps (first_none c9 _ h9))
-    (each_none (against shares_page) fault.SharedPage ps (second_none c9 _ h9))
+    (each_none (of_segment is_misaligned) fault.Align ps (first_none c7 _ h7)) (each_none (of_segment is_far) fault.Address ps (first_none c8 _ h8))
+    (each_none (against isnt_above) fault.Order ps (first_none c9 _ h9)) (each_none (against shares_page) fault.SharedPage ps (second_none c9 _ h9))
+
+-- and headers that are sound have no fault
+pub faultless_where_sound : (len : ℕ) (ps : List Placed) → AllByRecursion (IsSound len) ps → NoneHolds (header_conditions len ps)
+faultless_where_sound len ps h =
+    let by : (test : Placed → Bool) (name : ℕ → ElfFault) → ((p : Placed) → IsSound len p → test p ≡ false) → NoneHolds (each test name ps) =
+    λ test name t. NoneHolds-each (IsSound len) test name t ps h in
+    NoneHolds-append _ _ (by (of_segment is_dynamic) fault.Dynamic (λ p s. s.fixed_place))
+    (NoneHolds-append _ _ (by (of_segment is_stack_code) fault.StackCode (λ p s. s.plain_stack))
+    (NoneHolds-append _ _ (by (of_segment has_other_flags) fault.Flags (λ p s. s.flags))
+    (NoneHolds-append _ _ (by (of_segment is_writable_code) fault.WritableCode (λ p s. s.fixed))
+    (NoneHolds-append _ _ (by (of_segment is_larger_in_file) fault.SizeOrder (λ p s. s.small))
+    (NoneHolds-append _ _ (by (of_segment (leaves_file len)) fault.FileRange (λ p s. s.stored))
+    (NoneHolds-append _ _ (by (of_segment is_misaligned) fault.Align (λ p s. s.aligned))
+    (NoneHolds-append _ _ (by (of_segment is_far) fault.Address (λ p s. s.near))
+    (NoneHolds-append _ _ (by (against isnt_above) fault.Order (λ p s. s.above))
+    (by (against shares_page) fault.SharedPage (λ p s. s.apart))))))))))
 
 -- a load among sound headers, in numbers
 pub record IsSoundLoad (len : ℕ) (p : Placed) : Type 0 where

@@ -11,6 +11,7 @@ pub mod law;
 mod load_faults;
 pub mod placed;
 pub mod read;
+pub mod room;
 pub mod segment;
 #[cfg(test)]
 mod tests;

@@ -1,7 +1,7 @@
 //! Program headers (System V gABI, chapter 5, "Program Header").
 
 ghost use Rattle.std.specs.Prelude.{◌≡◌, ◌+◌, ◌≤◌, length};
-ghost use Rattle.rz_elf.specs.Elf.{segment_of, is_load, is_dynamic, is_stack_code, has_other_flags, is_writable_code, is_larger_in_file, leaves_file, is_misaligned, is_far, isnt_above, last_page, shares_page, has_entry};
+ghost use Rattle.rz_elf.specs.Elf.{segment_of, is_load, is_stack, is_dynamic, is_stack_code, has_other_flags, is_writable_code, is_larger_in_file, leaves_file, is_misaligned, is_far, isnt_above, last_page, shares_page, has_entry};
 
 use rz_image::perm::Perm;
 use rz_num::{get_u32, get_u64};
@@ -64,6 +64,13 @@ impl Segment {
         self.kind == LOAD && self.memsz != 0
     }
 
+    /// Whether it says how the stack may be used.
+    pub fn is_stack(&self) -> bool
+        ensures { result ≡ is_stack self.now }
+    {
+        self.kind == STACK
+    }
+
     /// Whether it asks for a dynamic linker.
     pub fn is_dynamic(&self) -> bool
         ensures { result ≡ is_dynamic self.now }
@@ -75,7 +82,7 @@ impl Segment {
     pub fn is_stack_code(&self) -> bool
         ensures { result ≡ is_stack_code self.now }
     {
-        self.kind == STACK && self.flags % 2 == 1
+        self.is_stack() && self.flags % 2 == 1
     }
 
     /// Whether it is a load that can't be read, or has flags that no permission has.

@@ -7,8 +7,10 @@ use Rattle.rz_machine.specs.Insn.{Way, Onward, Jumps, Branches, Calls, Halts, wa
 use Rattle.rz_machine.specs.Nodes.{Code, code_in, spelled_at, is_site_at}
 use Rattle.rz_machine.specs.First.{decode_first}
 use Rattle.rz_elf.specs.Elf.{image_of, fault_of}
-use Rattle.rz_machine.specs.Added.{Added, node_count, sites, site_edges, tables_size, code_size, stubs_size, parts_below, added, all_stubs, filled}
-use Rattle.rz_machine.specs.WrittenFile.{Parts, IsAdded, stubs_part, written_file, new_image, Inert}
+use Rattle.rz_machine.specs.Added.{node_count, sites, site_edges, added}
+use Rattle.rz_elf.specs.AddedRange.{Added, tables_size, code_size, stubs_size, parts_below, all_stubs, filled, stubs_part}
+use Rattle.rz_machine.specs.WrittenFile.{IsAdded, Inert}
+use Rattle.rz_elf.specs.WrittenFile.{Parts, written_file, new_image}
 use Rattle.rz_machine.specs.Thin.{thin_base, thin_file, IsThin}
 use Rattle.rz_machine.proofs.ThinLaws.{code_region, thin_image}
 use Rattle.rz_machine.proofs.Parts.{length-all_stubs, length-filled}

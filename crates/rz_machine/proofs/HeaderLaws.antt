@@ -6,7 +6,7 @@ use Rattle.byteorder.specs.Endian.{little_bytes, little_number}
 use Rattle.byteorder.specs.Numbers.{little_number-reads_back}
 use Rattle.rz_elf.specs.Elf.{segment_of, segments_of}
 use Rattle.rz_elf.specs.declared.segment.Segment.{Segment}
-use Rattle.rz_machine.specs.WrittenFile.{segment_bytes}
+use Rattle.rz_elf.specs.WrittenFile.{segment_bytes}
 
 -- the fields of a program header fit their places
 pub record IsEncodable (s : Segment) : Type 0 where

@@ -6,8 +6,8 @@ use Rattle.std.proofs.lemmas.Bool.Decides.{nat_tests}
 use Rattle.rz_image.specs.declared.region.Region.{Region}
 use Rattle.rz_image.specs.Perm.{has_flag}
 use Rattle.rz_image.specs.Memory.{Regions, contains, cell_in, cell_at, code_of, IsOutside, SameCell, zeros, whole_region}
-use Rattle.rz_machine.specs.Added.{scratch_size}
-use Rattle.rz_machine.specs.WrittenFile.{Parts, added_regions, without_code}
+use Rattle.rz_elf.specs.AddedRange.{scratch_size}
+use Rattle.rz_elf.specs.WrittenFile.{Parts, added_regions, without_code}
 use Rattle.rz_image.specs.Perm.{read_write, read_only, read_execute}
 use Rattle.rz_machine.proofs.Placed.{BytesAt, bytes_from}
 use Rattle.rz_image.proofs.Zeros.{length-zeros}

@@ -16,8 +16,9 @@ use Rattle.rz_machine.specs.Touches.{StepClear}
 use Rattle.rz_machine.specs.Start.{start, heap_region, stack_region, first_regs, first_rsp}
 use Rattle.rz_machine.specs.First.{decode_first}
 use Rattle.rz_elf.specs.Elf.{Image}
-use Rattle.rz_machine.specs.Added.{Added, Layout, node_count, added, layout_of, all_stubs}
-use Rattle.rz_machine.specs.WrittenFile.{Parts, added_regions, without_code, new_image}
+use Rattle.rz_machine.specs.Added.{Layout, node_count, added, layout_of}
+use Rattle.rz_elf.specs.AddedRange.{Added, all_stubs}
+use Rattle.rz_elf.specs.WrittenFile.{Parts, added_regions, without_code, new_image}
 use Rattle.rz_machine.specs.Keeps.{StopsAtStub, KeepsRun}
 use Rattle.rz_machine.specs.Pace.{Paced}
 use Rattle.rz_machine.specs.Nodes.{code_in, IsPlausible}

@@ -4,7 +4,8 @@ use Rattle.std.specs.List.{AllByRecursion}
 use Rattle.std.proofs.lemmas.List.{length-replicate}
 use Rattle.rz_num.specs.Page.{page_up}
 use Rattle.rz_image.specs.Memory.{Regions}
-use Rattle.rz_machine.specs.Added.{Added, lowest, parts_below, scratch_size, stub_bytes, all_stubs, filled, index_of}
+use Rattle.rz_machine.specs.Added.{index_of}
+use Rattle.rz_elf.specs.AddedRange.{Added, lowest, parts_below, scratch_size, stub_bytes, all_stubs, filled}
 use Rattle.rz_machine.specs.Kept.{has_node}
 use Rattle.rz_elf.specs.PlainImage.{IsPlainRegion}
 use Rattle.rz_machine.proofs.Placed.{BytesAt, bytes_back}

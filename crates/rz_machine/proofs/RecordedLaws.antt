@@ -4,14 +4,13 @@ use Rattle.std.proofs.lemmas.Bool.{or_left, or_right, cases_lt}
 use Rattle.rz_machine.specs.declared.machine.End.{End}
 use Rattle.rz_machine.specs.declared.machine.Machine.{Machine}
 use Rattle.rz_sys.specs.declared.input.Input.{Input}
-use Rattle.rz_machine.specs.Kept.{Kept}
+use Rattle.rz_machine.specs.Kept.{Kept, with_nodes, with_edges, Edges, has_edge, has_node}
 use Rattle.rz_image.specs.Memory.{Regions}
 use Rattle.rz_elf.specs.Elf.{Image}
 use Rattle.rz_machine.specs.Insn.{Decoder}
 use Rattle.rz_machine.specs.State.{step, after}
 use Rattle.rz_machine.specs.Start.{start}
 use Rattle.rz_machine.specs.Begun.{begun_at, begun, neighbours, recorded}
-use Rattle.rz_machine.specs.Kept.{with_nodes, with_edges, Edges, has_edge, has_node}
 use Rattle.rz_machine.specs.Keeps.{NoCut}
 use Rattle.rz_machine.specs.LeftCode.{left_at, StaysInCode}
 use Rattle.rz_machine.specs.Traced.{with_run}

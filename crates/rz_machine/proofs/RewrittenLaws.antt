@@ -5,8 +5,10 @@ use Rattle.rz_machine.specs.declared.items.Label.{Label}
 use Rattle.rz_machine.specs.declared.items.Label.TheVariants as label
 use Rattle.rz_machine.specs.Insn.{Decoder}
 use Rattle.rz_elf.specs.Elf.{Image}
-use Rattle.rz_machine.specs.Added.{Added, added, lowest, page_floor, all_stubs, node_count, site_count, site_edge_count, tables_size, code_size, stubs_size}
-use Rattle.rz_machine.specs.WrittenFile.{Parts, IsAdded}
+use Rattle.rz_machine.specs.Added.{added, node_count, site_count, site_edge_count}
+use Rattle.rz_elf.specs.AddedRange.{Added, lowest, page_floor, all_stubs, tables_size, code_size, stubs_size}
+use Rattle.rz_machine.specs.WrittenFile.{IsAdded}
+use Rattle.rz_elf.specs.WrittenFile.{Parts}
 use Rattle.rz_machine.specs.Kept.{Kept, has_node, sorted}
 use Rattle.rz_machine.specs.Nodes.{code_in}
 use Rattle.rz_machine.proofs.SetLaws.{has_node-sorted}

@@ -6,7 +6,7 @@ use Rattle.std.proofs.lemmas.Bool.Decides.{Decides-eqb}
 use Rattle.std.proofs.lemmas.List.{drop-drop, take_at, length-take-le}
 use Rattle.std.proofs.lemmas.Slice.Eq.{starts_is}
 use Rattle.rz_image.specs.Memory.{zeros}
-use Rattle.rz_machine.specs.WrittenFile.{segment_bytes}
+use Rattle.rz_elf.specs.WrittenFile.{segment_bytes}
 use Rattle.rz_machine.specs.Thin.{thin_header, thin_segment, thin_file, IsThin}
 use Rattle.rz_machine.specs.ThinPage.{has_thin_page}
 use Rattle.rz_machine.proofs.ThinLaws.{length-thin_file}

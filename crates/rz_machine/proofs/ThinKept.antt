@@ -7,8 +7,10 @@ use Rattle.rz_machine.specs.Kept.{Kept, IsAscending, has_node, sorted, sorted_ed
 use Rattle.rz_image.specs.Memory.{no_cell, contains, cell_in, cell_at}
 use Rattle.rz_machine.specs.First.{decode_first}
 use Rattle.rz_elf.specs.Elf.{Image, image_of, fault_of}
-use Rattle.rz_machine.specs.Added.{Added, node_count, added, layout_of, code_size, stubs_size}
-use Rattle.rz_machine.specs.WrittenFile.{Parts, IsAdded, new_image, written_file}
+use Rattle.rz_machine.specs.Added.{node_count, added, layout_of}
+use Rattle.rz_elf.specs.AddedRange.{Added, code_size, stubs_size}
+use Rattle.rz_machine.specs.WrittenFile.{IsAdded}
+use Rattle.rz_elf.specs.WrittenFile.{Parts, new_image, written_file}
 use Rattle.rz_sys.specs.Input.{IsValid}
 use Rattle.rz_machine.specs.Start.{start}
 use Rattle.rz_machine.specs.Thin.{IsThin, thin_base, thin_file}

@@ -9,7 +9,7 @@ use Rattle.rz_image.specs.Memory.{zeros}
 use Rattle.rz_elf.specs.Elf.{segments, is_load, file_header, has_entry, fault_of, load_bytes, load_region, Image, image_of}
 use Rattle.rz_elf.specs.declared.segment.Segment.{Segment}
 use Rattle.rz_elf.specs.declared.header.FileHeader.{FileHeader}
-use Rattle.rz_machine.specs.WrittenFile.{moved, kept_segments}
+use Rattle.rz_elf.specs.WrittenFile.{moved, kept_segments}
 use Rattle.rz_image.specs.Perm.{read_execute}
 use Rattle.rz_machine.specs.Thin.{thin_base, thin_segment, thin_file, IsThin}
 use Rattle.rz_image.proofs.Zeros.{length-zeros}

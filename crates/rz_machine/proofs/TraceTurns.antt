@@ -7,13 +7,12 @@ use Rattle.std.specs.Ordering.{nat_cmp}
 use Rattle.std.specs.BTreeSet.{insert_key}
 use Rattle.rz_machine.specs.declared.machine.End.{End}
 use Rattle.rz_machine.specs.declared.machine.Machine.{Machine}
-use Rattle.rz_machine.specs.Kept.{Kept}
+use Rattle.rz_machine.specs.Kept.{Kept, pair_cmp, with_nodes, with_edges}
 use Rattle.rz_machine.specs.declared.trace.TraceRefusal.{TraceRefusal}
 use Rattle.rz_machine.specs.declared.trace.TraceRefusal.TheVariants as refusal
 use Rattle.rz_machine.specs.Insn.{Decoder}
 use Rattle.rz_machine.specs.State.{step, after, decoded_at}
 use Rattle.rz_machine.specs.Begun.{begun_by, begun_at, begun, neighbours}
-use Rattle.rz_machine.specs.Kept.{pair_cmp, with_nodes, with_edges}
 use Rattle.rz_machine.specs.LeftCode.{left_at, LeavesCode, StaysInCode}
 use Rattle.rz_machine.specs.Traced.{with_run, HasPart, IsRefused, edge_from, with_begun}
 use Rattle.rz_machine.proofs.TraceLaws.{begins, begins_nothing, begun_none}

@@ -6,12 +6,12 @@ use Rattle.std.proofs.lemmas.List.{append-nil, append_assoc, length-append, drop
 use Rattle.std.proofs.lemmas.Bool.Decides.{nat_tests}
 use Rattle.rz_num.specs.Page.{page_up}
 use Rattle.rz_image.specs.Memory.{zeros, whole_region}
-use Rattle.rz_machine.specs.Added.{scratch_size}
+use Rattle.rz_elf.specs.AddedRange.{scratch_size}
 use Rattle.rz_elf.specs.Elf.{segments, segments_of, file_header, field, has_entry, fault_of, load_bytes, load_region, highest_end, Image, image_of}
 use Rattle.rz_elf.specs.declared.segment.Segment.{Segment}
 use Rattle.rz_elf.specs.declared.header.FileHeader.{FileHeader}
 use Rattle.rz_image.specs.Perm.{perm_of}
-use Rattle.rz_machine.specs.WrittenFile.{Parts, segment_bytes, header_bytes, header_page, added_segment, added_segments, new_segments, written_file, added_regions, without_code, new_image}
+use Rattle.rz_elf.specs.WrittenFile.{Parts, segment_bytes, header_bytes, header_page, added_segment, added_segments, new_segments, written_file, added_regions, without_code, new_image}
 use Rattle.rz_image.specs.Perm.{read_write}
 use Rattle.rz_machine.specs.Thin.{thin_base, thin_file}
 use Rattle.rz_machine.proofs.HeaderLaws.{IsEncodable, segments_of-segment_bytes, long}

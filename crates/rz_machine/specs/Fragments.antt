@@ -14,7 +14,8 @@ use Rattle.rz_machine.specs.Insn.{Decoder, Way, Onward, Jumps, Branches, Calls, 
 use Rattle.rz_machine.specs.First.{mov_number, spelling, spelling_len}
 use Rattle.rz_machine.specs.Kept.{Edges, has_edge}
 use Rattle.rz_machine.specs.Nodes.{Code, spelled_at}
-use Rattle.rz_machine.specs.Added.{Added, index_of}
+use Rattle.rz_machine.specs.Added.{index_of}
+use Rattle.rz_elf.specs.AddedRange.{Added, stub_size}
 
 -- where a transfer from a to b leads: to the fragment of b where the edge is kept, else to the stub of a
 abbrev pub to_label : Edges → ℕ → ℕ → Label
@@ -89,7 +90,7 @@ place_in (f ∷ rest) from a = if f.at == a then from else place_in rest (from +
 -- the address that a label names
 abbrev pub address_of : List Fragment → List ℕ → Added → Label → ℕ
 address_of frags nodes parts (label.Place a) = place_in frags parts.code a
-address_of frags nodes parts (label.Stub a) = parts.stubs + 24 * index_of nodes a
+address_of frags nodes parts (label.Stub a) = parts.stubs + stub_size * index_of nodes a
 
 abbrev pub resolved : (Label → ℕ) → Item → Insn
 resolved at (item.Whole x) = x

@@ -9,8 +9,10 @@ use Rattle.rz_elf.specs.Elf.{Image, image_of}
 use Rattle.rz_machine.specs.Insn.{Decoder}
 use Rattle.rz_machine.specs.Kept.{Kept, sorted, has_node}
 use Rattle.rz_machine.specs.Nodes.{code_in, IsPlausible}
-use Rattle.rz_machine.specs.Added.{node_count, site_count, site_edge_count, scratch_size, tables_size, code_size, stubs_size, lowest, page_floor, added, layout_of}
-use Rattle.rz_machine.specs.WrittenFile.{Parts, IsAdded, new_image, written_file, Inert}
+use Rattle.rz_machine.specs.Added.{node_count, site_count, site_edge_count, added, layout_of}
+use Rattle.rz_elf.specs.AddedRange.{scratch_size, tables_size, code_size, stubs_size, lowest, page_floor}
+use Rattle.rz_machine.specs.WrittenFile.{IsAdded, Inert}
+use Rattle.rz_elf.specs.WrittenFile.{Parts, new_image, written_file}
 use Rattle.rz_machine.specs.Start.{start}
 use Rattle.rz_machine.specs.Thin.{IsThin}
 use Rattle.rz_machine.specs.Keeps.{KeepsRun, Keeps}

@@ -3,7 +3,7 @@ use Rattle.std.specs.Prelude.{◌≡◌, ℕ, ◌≤◌, List, ◌∷◌, ◌++�
 use Rattle.byteorder.specs.Endian.{little_bytes}
 use Rattle.rz_image.specs.Memory.{zeros}
 use Rattle.rz_elf.specs.declared.segment.Segment.{Segment}
-use Rattle.rz_machine.specs.WrittenFile.{segment_bytes}
+use Rattle.rz_elf.specs.WrittenFile.{segment_bytes}
 
 -- where the code of a thin file stands, which is its entry too
 abbrev pub thin_base : ℕ

@@ -1,7 +1,7 @@
 -- The first page of a thin file, as a test.
 use Rattle.std.specs.Prelude.{ℕ, ◌-◌, Bool, ◌&&◌, ◌==◌, List, length, take, drop, nat_eq}
 use Rattle.std.specs.List.{list_all, starts_with}
-use Rattle.rz_machine.specs.WrittenFile.{segment_bytes}
+use Rattle.rz_elf.specs.WrittenFile.{segment_bytes}
 use Rattle.rz_machine.specs.Thin.{thin_header, thin_segment}
 
 -- both headers, and zeros up to a page

@@ -8,7 +8,8 @@ ghost use Rattle.rz_elf.specs.Elf.{fault_of, image_of};
 ghost use Rattle.rz_machine.specs.First.{decode_first};
 ghost use Rattle.rz_machine.specs.Added.{added, node_count};
 ghost use Rattle.rz_machine.specs.Greeting.{greeting, greeting_record};
-ghost use Rattle.rz_machine.specs.WrittenFile.{Parts, IsAdded, written_file, Inert};
+ghost use Rattle.rz_elf.specs.WrittenFile.{Parts, written_file};
+ghost use Rattle.rz_machine.specs.WrittenFile.{IsAdded, Inert};
 ghost use Rattle.rz_image.specs.Perm.{read_execute};
 ghost use Rattle.rz_machine.specs.Thin.{IsThin, thin_base, thin_file};
 

@@ -4,12 +4,13 @@
 ghost use Rattle.std.specs.Prelude.{◌≡◌, ◌≤◌, ◌<◌, ◌+◌, ◌^◌, ◌++◌, length, flat_map, OnOk, IfOk};
 ghost use Rattle.byteorder.specs.Endian.{little_bytes};
 ghost use Rattle.rz_image.specs.Memory.{zeros};
-ghost use Rattle.rz_machine.specs.WrittenFile.{segment_bytes, header_bytes, header_page, added_segment, added_segments, without_execute, moved, new_segments, written_file};
+ghost use Rattle.rz_elf.specs.WrittenFile.{segment_bytes, header_bytes, header_page, added_segment, added_segments, without_execute, moved, new_segments, written_file};
 ghost use Rattle.rz_machine.specs.Thin.{IsThin, thin_base, thin_segment};
 
 use rz_elf::segment::Segment;
 use rz_num::{Bytes, OutOfMemory, page_up};
 use std::alloc::Global;
+use std::marker::Model;
 
 /// The parts that are added to a file: the address of the first one, which is the scratch page,
 /// and the bytes of the three others, which follow it in memory.
@@ -19,6 +20,14 @@ pub struct Parts {
     pub tables: Bytes,
     pub code: Bytes,
     pub stubs: Bytes,
+}
+
+impl Model for Parts {
+    ghost use Rattle.rz_elf.specs.WrittenFile.{Parts as AddedParts};
+
+    ghost Value = { AddedParts };
+
+    ghost view = { λ p. record { base = p.base; tables = p.tables; code = p.code; stubs = p.stubs } };
 }
 
 /// The bytes of a page.

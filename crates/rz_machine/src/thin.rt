@@ -3,7 +3,7 @@
 ghost use Rattle.std.specs.Prelude.{◌≡◌, ◌==◌, [], ◌∷◌, ◌↔◌, ◌<◌, ◌≤◌, ◌⊎◌, length, IsTrue, IfOk, IfErr, IsErrOf};
 ghost use Rattle.std.specs.List.{list_all};
 ghost use Rattle.rz_elf.specs.Elf.{fault_of, image_of};
-ghost use Rattle.rz_machine.specs.WrittenFile.{segment_bytes};
+ghost use Rattle.rz_elf.specs.WrittenFile.{segment_bytes};
 ghost use Rattle.rz_machine.specs.Thin.{IsThin, thin_header, thin_segment};
 ghost use Rattle.rz_elf.specs.Loaded.{loaded};
 ghost use Rattle.rz_machine.specs.ThinElf.{thin_elf};

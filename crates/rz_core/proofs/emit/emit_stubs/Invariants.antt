@@ -1,5 +1,5 @@
 use Rattle.std.proofs.Common.{◌≡◌, ◌++◌, drop}
-use Rattle.rz_machine.specs.Added.{all_stubs}
+use Rattle.rz_elf.specs.AddedRange.{all_stubs}
 use Rattle.rz_core.proofs.emit.emit_stubs.Given as goal
 
 abbrev pub invariant-loop-a : goal.invariant-loop-a

@@ -1,6 +1,6 @@
 use Rattle.std.proofs.Common.{◌≡◌, ◌^◌, ◌<◌, ◌∙◌, List, sym, ap, ap₂, subst, map}
 use Rattle.rz_elf.specs.declared.elf.Load.{Load}
-use Rattle.rz_machine.specs.Added.{tables_size, code_size, stubs_size, page_floor, lowest, parts_below}
+use Rattle.rz_elf.specs.AddedRange.{tables_size, code_size, stubs_size, page_floor, lowest, parts_below}
 use Rattle.rz_elf.specs.Loaded.{ElfFile, loaded, loaded_region}
 use Rattle.rz_core.proofs.NewPartsLaws.{range_is, stop_is_low}
 use Rattle.rz_machine.specs.Traced.{kept_in}

@@ -1,7 +1,7 @@
 use Rattle.std.proofs.Common.{ap, subst, ◌∙◌}
 use Rattle.rz_elf.specs.Loaded.{ElfFile}
 use Rattle.rz_machine.specs.TableLaws.{AreBytes}
-use Rattle.rz_machine.specs.WrittenFile.{written_file}
+use Rattle.rz_elf.specs.WrittenFile.{written_file}
 use Rattle.rz_core.proofs.RewriteLaws.{plain, room, below, kept_file}
 use Rattle.rz_machine.specs.Traced.{kept_in}
 use Rattle.rz_core.proofs.rewrite.rewrite.Goals as goal

@@ -1,6 +1,6 @@
 use Rattle.std.proofs.Common.{◌+◌, ◌-◌, [], ◌∷◌, ◌++◌, length, refl}
 use Rattle.rz_num.specs.Page.{page_up}
-use Rattle.rz_machine.specs.WrittenFile.{added_segments, moved}
+use Rattle.rz_elf.specs.WrittenFile.{added_segments, moved}
 use Rattle.rz_machine.specs.Thin.{thin_segment}
 use Rattle.rz_machine.proofs.ThinLaws.{thin_long, thin_kept_by_length}
 use Rattle.rz_machine.proofs.elf_write.new_segments.Goals as goal

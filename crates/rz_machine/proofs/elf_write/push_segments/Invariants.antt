@@ -1,6 +1,6 @@
 use Rattle.std.proofs.Common.{◌≡◌, ◌++◌, take}
 use Rattle.std.specs.Prelude.{flat_map}
-use Rattle.rz_machine.specs.WrittenFile.{segment_bytes}
+use Rattle.rz_elf.specs.WrittenFile.{segment_bytes}
 use Rattle.rz_machine.proofs.elf_write.push_segments.Given as goal
 
 abbrev pub invariant-loop-segment : goal.invariant-loop-segment

@@ -1,8 +1,8 @@
-use Rattle.std.proofs.Common.{◌≡◌, ℕ, ◌-◌, List, [], ◌++◌, length, append_assoc, refl, ◌∙◌}
+use Rattle.std.proofs.Common.{◌≡◌, ℕ, ◌-◌, List, [], ◌++◌, length, append_assoc, refl, ap, ◌∙◌}
 use Rattle.rz_num.specs.Page.{page_up}
 use Rattle.rz_image.specs.Memory.{zeros}
 use Rattle.rz_elf.specs.declared.segment.Segment.{Segment}
-use Rattle.rz_machine.specs.WrittenFile.{Parts, header_page, new_segments, written_file}
+use Rattle.rz_elf.specs.WrittenFile.{Parts, header_page, new_segments, written_file}
 use Rattle.rz_machine.proofs.elf_write.write_elf.Goals as goal
 
 -- one append after the other
@@ -24,4 +24,7 @@ returns c =
     c.in_ok-out.out.items c.push_header_page.new.out.items c.extend_from_slice.new.self.items c.push_zeros.new.out.items c.extend_from_slice-2.new.self.items c.extend_from_slice-3.new.self.items c.extend_from_slice-4.new.self.items
     c.in_ok-out.ensures.items c.in_ok-push_header_page.ensures c.in_ok-extend_from_slice.ensures.items c.in_ok-push_zeros.ensures c.in_ok-extend_from_slice-2.ensures.items c.in_ok-extend_from_slice-3.ensures.items c.in_ok-extend_from_slice-4.ensures.items
     ∙ same_file c.args.original.now c.args.parts.now c.args.entry segs file c.as_slice-tables.result.now c.as_slice-code.result.now c.as_slice-stubs.result.now fill
-    c.new_segments-segments.ensures c.as_slice-file.ensures.value filled c.as_slice-tables.ensures.value c.as_slice-code.ensures.value c.as_slice-stubs.ensures.value
+    c.new_segments-segments.ensures c.as_slice-file.ensures.value filled
+    (c.as_slice-tables.ensures.value ∙ ap (λ (p : Parts). p.tables) c.parts.view_is)
+    (c.as_slice-code.ensures.value ∙ ap (λ (p : Parts). p.code) c.parts.view_is)
+    (c.as_slice-stubs.ensures.value ∙ ap (λ (p : Parts). p.stubs) c.parts.view_is)
