@@ -2,11 +2,11 @@ pub mod AddedLaws
 pub mod HeaderLaws
 pub mod ThinLaws
 pub mod WrittenLaws
+pub mod FormStands
 pub mod StepLaws
 pub mod CodeLaws
 pub mod OneForm
 pub mod RegLaws
-pub mod Outcomes
 pub mod Runs
 pub mod Placed
 pub mod Comes

@@ -16,7 +16,8 @@ use Rattle.rz_machine.specs.declared.machine.End.{End}
 use Rattle.rz_machine.specs.declared.machine.Machine.{Machine}
 use Rattle.rz_image.specs.Memory.{wrap}
 use Rattle.rz_machine.specs.Insn.{Decoder}
-use Rattle.rz_machine.specs.Effect.{carry, read_words, written, put_reg, is_written}
+use Rattle.rz_machine.specs.Form.{carry}
+use Rattle.rz_machine.specs.Effect.{written, put_reg, is_written}
 use Rattle.rz_sys.specs.Answer.{Called, answer}
 use Rattle.rz_sys.specs.Laws.Answers.{answer_word}
 use Rattle.rz_machine.specs.State.{step, act, perform, running, after_exit, decoded_at}
@@ -65,7 +66,7 @@ flags_fit f =
 
 -- one step
 pub step_regs : (dec : Decoder) (s : Machine) → AreRegs s.cpu.regs → AreRegs (step dec s).cpu.regs
-unfolding step carry read_words
+unfolding step carry
 step_regs dec s h = run s.end
   where
     call : (o : Option ℕ) (c : Called) (next : ℕ) → IsWord c.answer → IsWord next → AreRegs (after_exit o c next s).cpu.regs

@@ -1,4 +1,6 @@
 pub mod Insn
+pub mod Form
+pub mod Attempts
 pub mod Effect
 pub mod State
 pub mod Touches

@@ -135,7 +135,7 @@ impl Machine {
     }
 
     // An instruction before `next`.
-    #[tactic(auto, unfolding(crate::specs::Effect::carry, crate::specs::Effect::read_words))]
+    #[tactic(auto, unfolding(crate::specs::Form::carry))]
     fn perform(&mut self, alloc: Global, insn: Insn, next: u64) -> Result<(), OutOfMemory>
         requires { IsNamed insn }
         ensures ok { OnOk result (self.new ≡ perform_of insn next self.old) }
@@ -166,7 +166,7 @@ impl Machine {
     }
 
     // An operation on a register and a number, before `next`.
-    #[tactic(auto, unfolding(crate::specs::Effect::carry, crate::specs::Effect::read_words))]
+    #[tactic(auto, unfolding(crate::specs::Form::carry))]
     fn arith(&mut self, op: ArithOp, w: Width, dst: u8, value: u64, next: u64)
         requires { dst < 16 }
         ensures { self.new ≡ perform_of (insn.Arith op w (place.Reg (R dst)) (Imm value)) next self.old }
@@ -181,7 +181,7 @@ impl Machine {
     }
 
     // A conditional jump before `next`.
-    #[tactic(auto, unfolding(crate::specs::Effect::carry, crate::specs::Effect::read_words))]
+    #[tactic(auto, unfolding(crate::specs::Form::carry))]
     fn branch(&mut self, cond: Cond, target: u64, next: u64)
         ensures { self.new ≡ perform_of (insn.Jcc cond target) next self.old }
     {
