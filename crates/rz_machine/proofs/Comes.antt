@@ -11,7 +11,7 @@ use Rattle.rz_image.specs.Memory.{Regions, Range, fetch, wrap}
 use Rattle.rz_machine.specs.Insn.{Decoder, Jumps, Branches, Halts, way_of}
 use Rattle.rz_machine.specs.Form.{carry}
 use Rattle.rz_machine.specs.Effect.{end_by}
-use Rattle.rz_machine.specs.State.{step, after, running, act, perform, perform_by, stopped, decoded_at}
+use Rattle.rz_machine.specs.State.{step, after, running, act, perform, perform_by, end_with, decoded_at}
 use Rattle.rz_machine.specs.Keeps.{Same}
 use Rattle.rz_machine.proofs.CodeLaws.{HasCode, fetch_same}
 use Rattle.rz_machine.proofs.Placed.{InsnAt}
@@ -42,7 +42,7 @@ unfolding carry
 branch_is x c q next t is = ap (λ w. perform_by w x next t) is
 
 -- what ends the run leaves the rest
-pub halt_is : (x : Insn) (next : ℕ) (t : Machine) → way_of x ≡ Halts → perform x next t ≡ stopped (end_by x t.cpu.rip) t
+pub halt_is : (x : Insn) (next : ℕ) (t : Machine) → way_of x ≡ Halts → perform x next t ≡ end_with (end_by x t.cpu.rip) t
 halt_is x next t is = ap (λ w. perform_by w x next t) is
 
 -- the new run comes to a place, in a state the same as one of the old run's, after `least` to `most` steps

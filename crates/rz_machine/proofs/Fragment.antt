@@ -18,7 +18,7 @@ use Rattle.rz_machine.specs.Form.{Exception, Memory, Own, Divide, Popped, Comple
 use Rattle.rz_machine.specs.Attempts.{PlainClear}
 use Rattle.rz_machine.specs.Effect.{plain_effect, end_by}
 use Rattle.rz_sys.specs.Answer.{Called, answer, call_in, rdi, rsi, rdx, world_after}
-use Rattle.rz_machine.specs.State.{step, after, perform, perform_by, end_of, after_exception, after_effect, after_call, after_exit, stopped}
+use Rattle.rz_machine.specs.State.{step, after, perform, perform_by, end_of, after_exception, after_effect, after_call, after_exit, end_with}
 use Rattle.rz_machine.specs.Touches.{StepClear, InsnClear, WayClear}
 use Rattle.rz_machine.specs.Added.{Layout}
 use Rattle.rz_machine.specs.Keeps.{Same, Edges, AlikeEnds}
@@ -191,8 +191,8 @@ module _ (dec : Decoder) (edges : Edges) (lay : Layout) (place bound : ℕ → �
       let there : t.cpu.rip ≡ place a = st.there ∙ ap place rip in
       let old_end : End = end_by x s.cpu.rip in
       let new_end : End = end_by x t.cpu.rip in
-      let s1 : Machine = stopped old_end s in
-      let t1 : Machine = stopped new_end t in
+      let s1 : Machine = end_with old_end s in
+      let t1 : Machine = end_with new_end t in
       let f : step dec s ≡ s1 = step_is dec xm a x n old s st.old_runs rip st.old_code ∙ halt_is x n s is in
       let e : step dec t ≡ t1 = step_is dec wm (place a) x p new t st.new_runs there st.new_code ∙ halt_is x p t is in
       let Q : Machine → Type 0 = λ u. Follows dec edges lay place bound a u t in

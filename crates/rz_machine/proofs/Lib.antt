@@ -29,5 +29,6 @@ pub mod RewrittenLaws
 pub mod PlainNodes
 pub mod ThinKept
 pub mod ThinLoads
+pub mod EffectRows
 pub mod GreetingRuns
 pub mod ThinTraces

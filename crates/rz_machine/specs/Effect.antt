@@ -22,14 +22,14 @@ use Rattle.rz_machine.specs.Form.{Accesses, Effect, PlainEffect, Once}
 -- ---- registers
 
 -- a register after a value is written to it: 32 bits clear the upper half, 8 and 16 bits leave the rest
-abbrev pub written : Width → ℕ → ℕ → ℕ
-written W8 old v = old - low_bits W8 old + low_bits W8 v
-written W16 old v = old - low_bits W16 old + low_bits W16 v
-written W32 old v = low_bits W32 v
-written W64 old v = low_bits W64 v
+abbrev pub merge : Width → ℕ → ℕ → ℕ
+merge W8 old v = old - low_bits W8 old + low_bits W8 v
+merge W16 old v = old - low_bits W16 old + low_bits W16 v
+merge W32 old v = low_bits W32 v
+merge W64 old v = low_bits W64 v
 
 abbrev pub put_reg : Width → List ℕ → ℕ → ℕ → List ℕ
-put_reg w regs r v = set regs r (written w (get_or regs r 0) v)
+put_reg w regs r v = set regs r (merge w (get_or regs r 0) v)
 
 -- ---- plain instructions, by groups; none sees its own address, so one that moves keeps its effect
 

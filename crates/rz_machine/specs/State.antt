@@ -14,8 +14,8 @@ use Rattle.rz_machine.specs.Form.{Divide, Popped, Exception, Memory, Own, Comple
 use Rattle.rz_machine.specs.Effect.{Action, Passes, Leads, Asks, Ends, action_by}
 use Rattle.rz_sys.specs.Answer.{Called, answer, world_after}
 
-abbrev pub stopped : End → Machine → Machine
-stopped why s = record s { end = Some why }
+abbrev pub end_with : End → Machine → Machine
+end_with why s = record s { end = Some why }
 
 -- the end by an exception
 abbrev pub end_of : Exception → End
@@ -57,7 +57,7 @@ abbrev pub perform_action : Action → ℕ → Machine → Machine
 perform_action (Passes p) next s = after_effect (complete p s.cpu.regs s.cpu.flags s.mem) next s
 perform_action (Leads e to) next s = after_effect (carry e s.cpu.regs s.cpu.flags s.mem) (to (first_word e s.mem)) s
 perform_action Asks next s = after_call (answer s.cpu.regs s.mem s.world) next s
-perform_action (Ends why) next s = stopped why s
+perform_action (Ends why) next s = end_with why s
 
 abbrev pub perform_by : Way → Insn → ℕ → Machine → Machine
 perform_by w x next s = perform_action (action_by w x s.cpu.rip next s.cpu.regs s.cpu.flags) next s
@@ -72,8 +72,8 @@ decoded_at dec s = dec (fetch s.mem s.cpu.rip 15) s.cpu.rip
 
 abbrev pub act : Decoded → Machine → Machine
 act (decoded.Insn x len) s = perform x (wrap (s.cpu.rip + len)) s
-act decoded.Short s = stopped (end.Fetch s.cpu.rip) s
-act decoded.Unknown s = stopped (end.Unknown s.cpu.rip) s
+act decoded.Short s = end_with (end.Fetch s.cpu.rip) s
+act decoded.Unknown s = end_with (end.Unknown s.cpu.rip) s
 
 abbrev pub running : Option End → Decoder → Machine → Machine
 running None dec s = act (decoded_at dec s) s
