@@ -9,8 +9,9 @@ use Rattle.rz_machine.specs.declared.machine.End.TheVariants as end
 use Rattle.rz_machine.specs.declared.machine.Machine.{Machine}
 use Rattle.rz_image.specs.Memory.{Regions, Range, fetch, wrap}
 use Rattle.rz_machine.specs.Insn.{Decoder, Jumps, Branches, Halts, way_of}
-use Rattle.rz_machine.specs.Effect.{carry, read_words}
-use Rattle.rz_machine.specs.State.{step, after, running, act, perform, perform_by, onward, stopped, decoded_at}
+use Rattle.rz_machine.specs.Form.{carry}
+use Rattle.rz_machine.specs.Effect.{end_by}
+use Rattle.rz_machine.specs.State.{step, after, running, act, perform, perform_by, end_with, decoded_at}
 use Rattle.rz_machine.specs.Keeps.{Same}
 use Rattle.rz_machine.proofs.CodeLaws.{HasCode, fetch_same}
 use Rattle.rz_machine.proofs.Placed.{InsnAt}
@@ -32,21 +33,16 @@ moved q t = record t { cpu = record t.cpu { rip = q } }
 
 -- a jump moves RIP alone
 pub jump_is : (x : Insn) (q next : ℕ) (t : Machine) → way_of x ≡ Jumps q → perform x next t ≡ moved q t
-unfolding carry read_words
+unfolding carry
 jump_is x q next t is = ap (λ w. perform_by w x next t) is
 
 -- a conditional one too
 pub branch_is : (x : Insn) (c : Cond) (q next : ℕ) (t : Machine) → way_of x ≡ Branches c q → perform x next t ≡ moved (if holds c t.cpu.flags then q else next) t
-unfolding carry read_words
-branch_is x c q next t is = ap (λ w. perform_by w x next t) is ∙ go (holds c t.cpu.flags)
-  where
-    go : (b : Bool) → moved (onward (if b then Some q else None) next) t ≡ moved (if b then q else next) t
-    go true = refl
-    go false = refl
+unfolding carry
+branch_is x c q next t is = ap (λ w. perform_by w x next t) is
 
 -- what ends the run leaves the rest
-pub halt_is : (x : Insn) (next : ℕ) (t : Machine) → way_of x ≡ Halts → perform x next t ≡ stopped (end.Illegal t.cpu.rip) t
-unfolding carry read_words
+pub halt_is : (x : Insn) (next : ℕ) (t : Machine) → way_of x ≡ Halts → perform x next t ≡ end_with (end_by x t.cpu.rip) t
 halt_is x next t is = ap (λ w. perform_by w x next t) is
 
 -- the new run comes to a place, in a state the same as one of the old run's, after `least` to `most` steps

@@ -1,6 +1,7 @@
 -- A fragment follows its instruction.
-use Rattle.std.proofs.Common.{◌≡◌, ℕ, Bool, true, false, if◌then◌else◌, ◌%◌, ◌^◌, ◌<◌, ◌≤◌, inr, List, [], ◌∷◌, set, Option, Some, None, refl, sym, ap, ap₂, ◌∙◌, subst, arith, mod-eq_of_lt}
+use Rattle.std.proofs.Common.{◌≡◌, ℕ, ◌+◌, Bool, true, false, if◌then◌else◌, ◌%◌, ◌^◌, ◌<◌, ◌≤◌, inr, List, [], ◌∷◌, set, Option, Some, None, refl, sym, ap, ap₂, ◌∙◌, subst, arith, mod-eq_of_lt}
 use Rattle.rz_flags.specs.declared.Cond.{Cond}
+use Rattle.rz_flags.specs.declared.Flags.{Flags}
 use Rattle.rz_flags.specs.Cond.{holds}
 use Rattle.rz_flags.specs.Word.{flags_word}
 use Rattle.rz_machine.specs.declared.insn.Insn.{Insn}
@@ -9,20 +10,21 @@ use Rattle.rz_machine.specs.declared.decode.Decoded.{Decoded}
 use Rattle.rz_machine.specs.declared.machine.End.{End}
 use Rattle.rz_machine.specs.declared.machine.End.TheVariants as end
 use Rattle.rz_machine.specs.declared.machine.Machine.{Machine}
-use Rattle.rz_image.specs.Memory.{Regions, IsInside}
+use Rattle.rz_image.specs.Memory.{Regions, IsInside, wrap}
 use Rattle.rz_machine.specs.Insn.{Decoder, Way, Onward, Jumps, Branches, Calls, Halts, way_of}
 use Rattle.rz_machine.specs.First.{mov_number}
-use Rattle.rz_machine.specs.Effect.{Effect, PlainEffect, plain_effect, plainly, effect_by, Done, Went, Stopped, carry, read_words, EffectClear}
+use Rattle.rz_machine.specs.Form.{Exception, Memory, Own, Divide, Popped, Completion, carry, PlainEffect, complete}
+use Rattle.rz_machine.specs.Attempts.{PlainClear}
+use Rattle.rz_machine.specs.Effect.{plain_effect, end_by}
 use Rattle.rz_sys.specs.Answer.{Called, answer}
-use Rattle.rz_machine.specs.State.{step, after, perform, perform_by, perform_effect, after_done, after_call, after_exit, onward, stopped}
+use Rattle.rz_machine.specs.State.{step, after, perform, perform_by, end_of, after_exception, after_effect, after_call, after_exit, end_with}
 use Rattle.rz_machine.specs.Touches.{StepClear, InsnClear, WayClear}
 use Rattle.rz_machine.specs.Added.{Layout}
-use Rattle.rz_machine.specs.Keeps.{Same, AlikeEnds}
 use Rattle.rz_machine.specs.Kept.{Edges}
-use Rattle.rz_machine.proofs.Outcomes.{DoneHas, carry_has}
+use Rattle.rz_machine.specs.Keeps.{Same, AlikeEnds}
 use Rattle.rz_machine.proofs.CodeLaws.{HasCode, step_code}
 use Rattle.rz_sys.specs.Laws.Alike.{CalledAlike, answer_alike, world_after_alike}
-use Rattle.rz_machine.proofs.OneForm.{DoneAlike, carry_alike}
+use Rattle.rz_machine.proofs.OneForm.{CompletionAlike, complete_alike}
 use Rattle.rz_machine.proofs.Runs.{dest, Follows, Stand}
 use Rattle.rz_machine.proofs.Placed.{InsnAt}
 use Rattle.rz_machine.proofs.Comes.{decodes_to, step_is, moved, jump_is, branch_is, halt_is, Comes, stay, one_more, weaker, jump_comes, Onto, onto}
@@ -35,7 +37,7 @@ rcx_again (a ∷ b ∷ regs) x y z w = refl
 
 -- a number moved to a register
 mov_is : (r v next : ℕ) (t : Machine) → v < 2 ^ 32 → perform (mov_number r v) next t ≡ record t { cpu = record t.cpu { regs = set t.cpu.regs r v; rip = next } }
-unfolding carry read_words
+unfolding carry
 mov_is r v next t low =
     let P : ℕ → Machine = λ u. record t { cpu = record t.cpu { regs = set t.cpu.regs r u; rip = next } } in
     let e : v % 2 ^ 32 ≡ v = mod-eq_of_lt low in
@@ -58,29 +60,11 @@ module _ (dec : Decoder) (edges : Edges) (lay : Layout) (place bound : ℕ → �
   abbrev To : ℕ → ℕ → ℕ
   To a b = dest edges place lay.stub a b
 
-  -- the ends of a plain instruction name no place of the instruction
-  abbrev NoPlace : End → Type 0
-  NoPlace (end.Illegal a) = ⊥
-  NoPlace e = Unit {0}
-
-  -- such ends are alike where they are equal
-  same_ends : (e : End) → NoPlace e → AlikeEnds lay.code (Some e) (Some e)
-  same_ends (end.Illegal a) h = absurd h
-  same_ends (end.Exit n) h = refl
-  same_ends (end.Memory n) h = refl
-  same_ends (end.Fetch n) h = refl
-  same_ends (end.Unknown n) h = refl
-  same_ends end.Divide h = refl
-  same_ends end.Halted h = refl
-  same_ends end.Break h = refl
-  same_ends end.Popped h = refl
-
-  -- a plain instruction goes on to the next address, or ends at no place
-  abbrev IsNext : Option ℕ → Type 0
-  IsNext to = to ≡ None
-
-  abbrev IsPlain : Done → Type 0
-  IsPlain d = DoneHas IsNext NoPlace (λ a. tt) d
+  -- the ends by an exception are alike where they are equal
+  same_ends : (x : Exception) → AlikeEnds lay.code (Some (end_of x)) (Some (end_of x))
+  same_ends (Memory bad) = refl
+  same_ends (Own Divide) = refl
+  same_ends (Own Popped) = refl
 
   -- both runs end
   ends_now : (a : ℕ) (s t t' : Machine) (why why' : End) → step dec t ≡ t' → s.end ≡ Some why → t'.end ≡ Some why' → AlikeEnds lay.code (Some why) (Some why') → Same lay.added s t' → Follows dec edges lay place bound a s t
@@ -103,55 +87,55 @@ module _ (dec : Decoder) (edges : Edges) (lay : Layout) (place bound : ℕ → �
         ends = λ w over. absurd (let f : None ≡ Some w = sym runs ∙ over in cc);
       }
 
-  -- after an effect
-  done_follows : (a n p : ℕ) (s t : Machine) (d d' : Done) → DoneAlike lay.added d d' → IsPlain d → Stand lay place xm wm s t → step dec t ≡ after_done d' p t → HasCode wm (after_done d' p t).mem → Onto dec wm p (To a n) → Follows dec edges lay place bound a (after_done d n s) t
-  done_follows a n p s t (Stopped why) (Stopped why') alike plain st e code ahead =
-      let P : End → Type 0 = λ v. AlikeEnds lay.code (Some why) (Some v) in
-      let same = st.same in
-      ends_now a _ t (stopped why' t) why why' e refl refl (subst P alike (same_ends why plain)) (record { regs = same.regs; flags = same.flags; world = same.world; mem = same.mem })
-  done_follows a n p s t (Went regs flags mem to) (Went regs' flags' mem' to') alike plain st e code ahead =
-      let t1 = after_done (Went regs' flags' mem' to') p t in
-      let s1 = after_done (Went regs flags mem to) n s in
-      let there : t1.cpu.rip ≡ p = ap (λ o. onward o p) (sym alike.3 ∙ plain) in
-      let here : s1.cpu.rip ≡ n = ap (λ o. onward o n) plain in
-      let same : Same lay.added s1 t1 = record { regs = alike.0; flags = alike.1; world = st.same.world; mem = alike.2 } in
-      let q = To a n in
-      let c : Comes dec lay.added s1 t 1 2 q = one_more dec lay.added s1 t t1 0 1 q e (onto dec lay.added wm p q ahead s1 t1 st.new_runs there code same) in
-      let P : ℕ → Type 0 = λ b. Comes dec lay.added s1 t 1 3 (To a b) in
-      goes_now a s1 t st.old_runs (subst P (sym here) (weaker dec lay.added s1 t 1 2 1 3 q (omega arith) (omega arith) c))
-  done_follows a n p s t (Went regs flags mem to) (Stopped why) alike plain st e code ahead = absurd alike
-  done_follows a n p s t (Stopped why) (Went regs flags mem to) alike plain st e code ahead = absurd alike
-
-  -- the same effect
-  effect_same : (x : Insn) (s t : Machine) → Same lay.added s t → plain_effect x s.cpu.regs s.cpu.flags ≡ plain_effect x t.cpu.regs t.cpu.flags
-  effect_same x s t same = ap₂ (λ r g. plain_effect x r g) same.regs same.flags
+  -- after alike effects
+  effect_follows : (a n p : ℕ) (s t : Machine) (c d : Completion) → CompletionAlike lay.added c d → Stand lay place xm wm s t → step dec t ≡ after_effect d p t
+      → HasCode wm (after_effect d p t).mem → Onto dec wm p (To a n) → Follows dec edges lay place bound a (after_effect c n s) t
+  effect_follows a n p s t c d alike st e code ahead =
+      let P : Option Exception → Type 0 = λ o. step dec t ≡ after_exception o d p t in
+      let Q : Option Exception → Type 0 = λ o. HasCode wm (after_exception o d p t).mem in
+      go c.exception (subst P (sym alike.exception) e) (subst Q (sym alike.exception) code)
+    where
+      go : (o : Option Exception) → step dec t ≡ after_exception o d p t → HasCode wm (after_exception o d p t).mem → Follows dec edges lay place bound a (after_exception o c n s) t
+      go (Some x) e code =
+          let s1 = after_exception (Some x) c n s in
+          let t1 = after_exception (Some x) d p t in
+          let same : Same lay.added s1 t1 = record { regs = alike.regs; flags = alike.flags; world = st.same.world; mem = alike.mem } in
+          ends_now a s1 t t1 (end_of x) (end_of x) e refl refl (same_ends x) same
+      go None e code =
+          let s1 = after_exception None c n s in
+          let t1 = after_exception None d p t in
+          let same : Same lay.added s1 t1 = record { regs = alike.regs; flags = alike.flags; world = st.same.world; mem = alike.mem } in
+          let q = To a n in
+          let last = onto dec lay.added wm p q ahead s1 t1 st.new_runs refl code same in
+          let all : Comes dec lay.added s1 t 1 2 q = one_more dec lay.added s1 t t1 0 1 q e last in
+          goes_now a s1 t st.old_runs (weaker dec lay.added s1 t 1 2 1 3 q (omega arith) (omega arith) all)
 
   -- a plain instruction as it is, whatever its effect
   plain_follows : (x : Insn) (a n p : ℕ) (s t : Machine) → way_of x ≡ Onward → InsnAt dec xm a x n → InsnAt dec wm (place a) x p → Onto dec wm p (To a n)
-      → EffectClear lay.added (effect_by Onward x s.cpu.rip s.cpu.regs s.cpu.flags) s.mem
+      → PlainClear lay.added (plain_effect x s.cpu.regs s.cpu.flags) s.cpu.regs s.cpu.flags s.mem
       → s.cpu.rip ≡ a → Stand lay place xm wm s t → Follows dec edges lay place bound a (step dec s) t
   plain_follows x a n p s t is old new ahead clear rip st =
       let there : t.cpu.rip ≡ place a = st.there ∙ ap place rip in
-      let v : Effect = plainly (plain_effect x s.cpu.regs s.cpu.flags) in
-      let d : Done = carry v s.mem in
-      let d' : Done = carry (plainly (plain_effect x t.cpu.regs t.cpu.flags)) t.mem in
-      let form : (next : ℕ) (u : Machine) → perform x next u ≡ perform_effect Onward x next u = λ next u. ap (λ w. perform_by w x next u) is in
-      let e : step dec t ≡ after_done d' p t = step_is dec wm (place a) x p new t st.new_runs there st.new_code ∙ form p t in
-      let f : step dec s ≡ after_done d n s = step_is dec xm a x n old s st.old_runs rip st.old_code ∙ form n s in
-      let P : PlainEffect → Type 0 = λ q. DoneAlike lay.added d (carry (plainly q) t.mem) in
-      let alike : DoneAlike lay.added d d' = subst P (effect_same x s t st.same) (carry_alike lay.added s.mem t.mem v clear st.same.mem) in
-      let plain : IsPlain d = carry_has IsNext NoPlace (λ a. tt) v s.mem (λ words. refl) in
+      let K : List ℕ → Flags → Completion = λ regs flags. complete (plain_effect x regs flags) regs flags t.mem in
+      let c : Completion = complete (plain_effect x s.cpu.regs s.cpu.flags) s.cpu.regs s.cpu.flags s.mem in
+      let d : Completion = K t.cpu.regs t.cpu.flags in
+      let e : step dec t ≡ after_effect d p t = step_is dec wm (place a) x p new t st.new_runs there st.new_code ∙ ap (λ w. perform_by w x p t) is in
+      let f : step dec s ≡ after_effect c n s = step_is dec xm a x n old s st.old_runs rip st.old_code ∙ ap (λ w. perform_by w x n s) is in
+      let one : CompletionAlike lay.added c (K s.cpu.regs s.cpu.flags) =
+      complete_alike lay.added (plain_effect x s.cpu.regs s.cpu.flags) s.cpu.regs s.cpu.flags s.mem t.mem clear st.same.mem in
+      let alike : CompletionAlike lay.added c d = subst (CompletionAlike lay.added c) (ap₂ K st.same.regs st.same.flags) one in
       let C : Machine → Type 0 = λ u. HasCode wm u.mem in
-      let code : HasCode wm (after_done d' p t).mem = subst C e (step_code wm dec t st.new_code) in
+      let code : HasCode wm (after_effect d p t).mem = subst C e (step_code wm dec t st.new_code) in
       let Q : Machine → Type 0 = λ u. Follows dec edges lay place bound a u t in
-      subst Q (sym f) (done_follows a n p s t d d' alike plain st e code ahead)
+      subst Q (sym f) (effect_follows a n p s t c d alike st e code ahead)
 
   -- what the step's accesses say of the instruction that stands there
-  insn_clear : (x : Insn) (w : Way) (a n : ℕ) (s : Machine) → way_of x ≡ w → InsnAt dec xm a x n → s.cpu.rip ≡ a → s.end ≡ None → HasCode xm s.mem → StepClear lay.added dec s → WayClear lay.added w x s
+  insn_clear : (x : Insn) (w : Way) (a n : ℕ) (s : Machine) → way_of x ≡ w → (at : InsnAt dec xm a x n) → s.cpu.rip ≡ a → s.end ≡ None → HasCode xm s.mem → StepClear lay.added dec s
+      → WayClear lay.added w x (wrap (s.cpu.rip + at.len)) s
   unfolding StepClear
   insn_clear x w a n s is at rip runs code clear =
       let P : Decoded → Type 0 = λ d. InsnClear lay.added d s in
-      let W : Way → Type 0 = λ v. WayClear lay.added v x s in
+      let W : Way → Type 0 = λ v. WayClear lay.added v x (wrap (s.cpu.rip + at.len)) s in
       subst W is (subst P (decodes_to dec xm a x n at s rip code) (clear runs))
 
   -- states that are the same but for RIP
@@ -196,16 +180,25 @@ module _ (dec : Decoder) (edges : Edges) (lay : Layout) (place bound : ℕ → �
           let k = one_more dec lay.added s1 t t1 0 1 (To a n) e last in
           goes_now a s1 t st.old_runs (weaker dec lay.added s1 t 1 2 1 3 (To a n) (omega arith) (omega arith) k)
 
+  -- the ends of an instruction that halts are alike, where the new one lies in the code part
+  halts_alike : (x : Insn) (b c : ℕ) → IsInside lay.code c → AlikeEnds lay.code (Some (end_by x b)) (Some (end_by x c))
+  halts_alike x b c inside = inr inside
+
   -- what ends the run stays, and its address lies in the code part
-  halt_follows : (x : Insn) (a n p : ℕ) (s t : Machine) → way_of x ≡ Halts → InsnAt dec xm a x n → InsnAt dec wm (place a) x p → IsInside lay.code (place a) → s.cpu.rip ≡ a → Stand lay place xm wm s t → Follows dec edges lay place bound a (step dec s) t
+  halt_follows : (x : Insn) (a n p : ℕ) (s t : Machine) → way_of x ≡ Halts → InsnAt dec xm a x n → InsnAt dec wm (place a) x p → IsInside lay.code (place a) → s.cpu.rip ≡ a → Stand lay place xm wm s t
+      → Follows dec edges lay place bound a (step dec s) t
   halt_follows x a n p s t is old new inside rip st =
       let there : t.cpu.rip ≡ place a = st.there ∙ ap place rip in
-      let f : step dec s ≡ stopped (end.Illegal s.cpu.rip) s = step_is dec xm a x n old s st.old_runs rip st.old_code ∙ halt_is x n s is in
-      let e : step dec t ≡ stopped (end.Illegal t.cpu.rip) t = step_is dec wm (place a) x p new t st.new_runs there st.new_code ∙ halt_is x p t is in
+      let old_end : End = end_by x s.cpu.rip in
+      let new_end : End = end_by x t.cpu.rip in
+      let s1 : Machine = end_with old_end s in
+      let t1 : Machine = end_with new_end t in
+      let f : step dec s ≡ s1 = step_is dec xm a x n old s st.old_runs rip st.old_code ∙ halt_is x n s is in
+      let e : step dec t ≡ t1 = step_is dec wm (place a) x p new t st.new_runs there st.new_code ∙ halt_is x p t is in
       let Q : Machine → Type 0 = λ u. Follows dec edges lay place bound a u t in
       let in_code : IsInside lay.code t.cpu.rip = subst (IsInside lay.code) (sym there) inside in
-      let same : Same lay.added (stopped (end.Illegal s.cpu.rip) s) (stopped (end.Illegal t.cpu.rip) t) = record { regs = st.same.regs; flags = st.same.flags; world = st.same.world; mem = st.same.mem } in
-      subst Q (sym f) (ends_now a (stopped (end.Illegal s.cpu.rip) s) t (stopped (end.Illegal t.cpu.rip) t) (end.Illegal s.cpu.rip) (end.Illegal t.cpu.rip) e refl refl (inr in_code) same)
+      let same : Same lay.added s1 t1 = record { regs = st.same.regs; flags = st.same.flags; world = st.same.world; mem = st.same.mem } in
+      subst Q (sym f) (ends_now a s1 t t1 old_end new_end e refl refl (halts_alike x s.cpu.rip t.cpu.rip in_code) same)
 
   -- after a call, which ends the run or goes on with RCX set to the old next address
   call_follows : (a n p : ℕ) (s t : Machine) (c d : Called) (o : Option ℕ) → c.exit ≡ o → CalledAlike lay.added c d → Stand lay place xm wm s t → step dec t ≡ after_call d p t
@@ -236,7 +229,7 @@ module _ (dec : Decoder) (edges : Edges) (lay : Layout) (place bound : ℕ → �
 
   -- a system call is made as it is, and RCX set to the old next address
   syscall_follows : (x : Insn) (a n p q : ℕ) (s t : Machine) → way_of x ≡ Calls → InsnAt dec xm a x n → n < 2 ^ 32 → InsnAt dec wm (place a) x p → InsnAt dec wm p (mov_number 1 n) q → Onto dec wm q (To a n)
-      → WayClear lay.added Calls x s → s.cpu.rip ≡ a → Stand lay place xm wm s t → Follows dec edges lay place bound a (step dec s) t
+      → WayClear lay.added Calls x n s → s.cpu.rip ≡ a → Stand lay place xm wm s t → Follows dec edges lay place bound a (step dec s) t
   syscall_follows x a n p q s t is old low new mov ahead clear rip st =
       let there : t.cpu.rip ≡ place a = st.there ∙ ap place rip in
       let c = answer s.cpu.regs s.mem s.world in

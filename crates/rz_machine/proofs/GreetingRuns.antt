@@ -5,7 +5,7 @@ use Rattle.rz_machine.specs.declared.decode.Decoded.TheVariants as decoded
 use Rattle.rz_machine.specs.declared.machine.End.TheVariants as end
 use Rattle.rz_machine.specs.declared.machine.Machine.{Machine}
 use Rattle.rz_image.specs.Memory.{fetch, cell_at, refused, bytes_at}
-use Rattle.rz_machine.specs.Effect.{carry, read_words}
+use Rattle.rz_machine.specs.Form.{carry}
 use Rattle.rz_sys.specs.Answer.{answer}
 use Rattle.rz_machine.specs.State.{step, after}
 use Rattle.rz_sys.specs.Input.{empty_input}
@@ -41,13 +41,13 @@ jump_back = refl
 
 -- the state after the exit
 greeting_end : Machine
-unfolding step after fetch cell_at carry read_words answer refused bytes_at first_regs first_rsp decode_first
+unfolding step after fetch cell_at carry answer refused bytes_at first_regs first_rsp decode_first
 greeting_end = after decode_first 8 (start (code_image greeting) empty_input)
 
 greeting_exits : greeting_end.end ≡ Some (end.Exit 0)
-unfolding greeting_end step after fetch cell_at carry read_words answer refused bytes_at first_regs first_rsp decode_first
+unfolding greeting_end step after fetch cell_at carry answer refused bytes_at first_regs first_rsp decode_first
 greeting_exits = refl
 
 greeting_writes : greeting_end.world.events ≡ (record { number = 1; args = 1 ∷ 0x401022 ∷ 3 ∷ []; answer = 3; bytes = 0x68 ∷ 0x69 ∷ 0x0a ∷ [] }) ∷ (record { number = 60; args = 0 ∷ 0x401022 ∷ 3 ∷ []; answer = 0; bytes = [] }) ∷ []
-unfolding greeting_end step after fetch cell_at carry read_words answer refused bytes_at first_regs first_rsp decode_first
+unfolding greeting_end step after fetch cell_at carry answer refused bytes_at first_regs first_rsp decode_first
 greeting_writes = refl

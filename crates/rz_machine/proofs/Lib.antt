@@ -2,12 +2,12 @@ pub mod AddedLaws
 pub mod HeaderLaws
 pub mod ThinLaws
 pub mod WrittenLaws
+pub mod FormStands
 pub mod StepLaws
 pub mod CodeLaws
 pub mod NodeLaws
 pub mod OneForm
 pub mod RegLaws
-pub mod Outcomes
 pub mod Runs
 pub mod Placed
 pub mod Comes
@@ -30,5 +30,6 @@ pub mod RewrittenLaws
 pub mod PlainNodes
 pub mod ThinKept
 pub mod ThinLoads
+pub mod EffectRows
 pub mod GreetingRuns
 pub mod ThinTraces

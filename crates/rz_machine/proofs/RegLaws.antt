@@ -16,7 +16,8 @@ use Rattle.rz_machine.specs.declared.machine.End.{End}
 use Rattle.rz_machine.specs.declared.machine.Machine.{Machine}
 use Rattle.rz_image.specs.Memory.{wrap}
 use Rattle.rz_machine.specs.Insn.{Decoder}
-use Rattle.rz_machine.specs.Effect.{carry, read_words, written, put_reg, is_written}
+use Rattle.rz_machine.specs.Form.{carry}
+use Rattle.rz_machine.specs.Effect.{merge, put_reg, is_written}
 use Rattle.rz_sys.specs.Answer.{Called, answer}
 use Rattle.rz_sys.specs.Laws.Answers.{answer_word}
 use Rattle.rz_machine.specs.State.{step, act, perform, running, after_exit, decoded_at}
@@ -47,11 +48,11 @@ pub set_regs : (regs : List ℕ) (i v : ℕ) → AreRegs regs → IsWord v → A
 set_regs regs i v h w = record { sixteen = length-set regs i v ∙ h.sixteen; words = set_words regs i v h.words w }
 
 -- a value put into a word at a width
-written_word : (w : Width) (old v : ℕ) → IsWord old → IsWord (written w old v)
-written_word W8 old v h = omega arith
-written_word W16 old v h = omega arith
-written_word W32 old v h = omega arith
-written_word W64 old v h = omega arith
+merge_word : (w : Width) (old v : ℕ) → IsWord old → IsWord (merge w old v)
+merge_word W8 old v h = omega arith
+merge_word W16 old v h = omega arith
+merge_word W32 old v h = omega arith
+merge_word W64 old v h = omega arith
 
 -- the flags word is one
 flags_fit : (f : Flags) → IsWord (flags_word f)
@@ -65,7 +66,7 @@ flags_fit f =
 
 -- one step
 pub step_regs : (dec : Decoder) (s : Machine) → AreRegs s.cpu.regs → AreRegs (step dec s).cpu.regs
-unfolding step carry read_words
+unfolding step carry
 step_regs dec s h = run s.end
   where
     call : (o : Option ℕ) (c : Called) (next : ℕ) → IsWord c.answer → IsWord next → AreRegs (after_exit o c next s).cpu.regs
@@ -73,7 +74,7 @@ step_regs dec s h = run s.end
     call None c next a n = set_regs _ 11 _ (set_regs _ 1 _ (set_regs s.cpu.regs 0 _ h a) n) (flags_fit s.cpu.flags)
 
     put : (w : Width) (dst v : ℕ) → AreRegs (put_reg w s.cpu.regs dst v)
-    put w dst v = set_regs s.cpu.regs dst _ h (written_word w _ v (get_word s.cpu.regs dst h.words))
+    put w dst v = set_regs s.cpu.regs dst _ h (merge_word w _ v (get_word s.cpu.regs dst h.words))
 
     kept : (b : Bool) (regs : List ℕ) → AreRegs regs → AreRegs (if b then regs else s.cpu.regs)
     kept true regs k = k

@@ -11,54 +11,36 @@ use Rattle.rz_machine.specs.declared.machine.End.TheVariants as end
 use Rattle.rz_machine.specs.declared.machine.Machine.{Machine}
 use Rattle.rz_image.specs.Memory.{Regions, wrap}
 use Rattle.rz_machine.specs.Insn.{Decoder, Way, Onward, Jumps, Branches, Calls, Halts, way_of, kind_in, target_in, direct_by, direct}
-use Rattle.rz_machine.specs.Effect.{Done, Went, Stopped, plain_effect, plainly, effect_by, carry, read_words}
+use Rattle.rz_machine.specs.Form.{Exception, Memory, Own, Divide, Popped, Completion}
 use Rattle.rz_sys.specs.Answer.{Called}
-use Rattle.rz_machine.specs.State.{step, after, act, perform, perform_by, perform_effect, running, after_done, after_exit, onward, decoded_at}
+use Rattle.rz_machine.specs.State.{step, after, act, perform, perform_by, running, after_exception, after_exit, decoded_at}
 use Rattle.rz_machine.specs.Begun.{begun_by, begun_at, begun, neighbours}
 use Rattle.rz_machine.specs.Nodes.{Code, code_in, IsNode, spelled_at, is_site_at, direct_at}
 use Rattle.rz_machine.specs.Kept.{has_edge, has_node}
 use Rattle.rz_machine.specs.LeftCode.{left_at}
-use Rattle.rz_machine.proofs.Outcomes.{OutcomeHas, DoneHas, carry_has}
 use Rattle.rz_machine.proofs.CodeLaws.{HasCode, fetch_same, step_code}
 use Rattle.rz_machine.proofs.NodeLaws.{spelled_at-code_in}
-
--- the ends of an instruction are not Fetch and Unknown
-abbrev Stays : End → Type 0
-Stays why = left_at (Some why) ≡ None
-
-abbrev Anywhere : Option ℕ → Type 0
-Anywhere to = Unit {0}
-
-effect_stays : (w : Way) (x : Insn) (here : ℕ) (regs : List ℕ) (flags : Flags) (words : List ℕ) → OutcomeHas Anywhere Stays (λ a. refl) ((effect_by w x here regs flags).gives words)
-effect_stays Onward x here regs flags words = tt
-effect_stays (Jumps target) x here regs flags words = tt
-effect_stays (Branches cond target) x here regs flags words = tt
-effect_stays Calls x here regs flags words = tt
-effect_stays Halts x here regs flags words = refl
 
 -- an instruction never ends a run with Fetch or Unknown
 pub perform_stays : (x : Insn) (next : ℕ) (s : Machine) → s.end ≡ None → left_at (perform x next s).end ≡ None
 perform_stays x next s h = go (way_of x)
   where
-    done : (d : Done) → DoneHas Anywhere Stays (λ a. refl) d → left_at (after_done d next s).end ≡ None
-    done (Stopped why) k = k
-    done (Went regs flags mem to) k = ap left_at h
+    effect : (o : Option Exception) (c : Completion) (to : ℕ) → left_at (after_exception o c to s).end ≡ None
+    effect None c to = ap left_at h
+    effect (Some (Memory bad)) c to = refl
+    effect (Some (Own Divide)) c to = refl
+    effect (Some (Own Popped)) c to = refl
 
     call : (o : Option ℕ) (c : Called) → left_at (after_exit o c next s).end ≡ None
     call (Some status) c = refl
     call None c = ap left_at h
 
-    effects : (w : Way) → left_at (perform_effect w x next s).end ≡ None
-    effects w =
-        let e = effect_by w x s.cpu.rip s.cpu.regs s.cpu.flags in
-        done _ (carry_has Anywhere Stays (λ a. refl) e s.mem (effect_stays w x s.cpu.rip s.cpu.regs s.cpu.flags))
-
     go : (w : Way) → left_at (perform_by w x next s).end ≡ None
+    go Onward = effect _ _ _
+    go (Jumps target) = effect _ _ _
+    go (Branches cond target) = effect _ _ _
     go Calls = call _ _
-    go Onward = effects Onward
-    go (Jumps target) = effects (Jumps target)
-    go (Branches cond target) = effects (Branches cond target)
-    go Halts = effects Halts
+    go Halts = refl
 
 -- a state that has ended stays, and begins nothing
 
@@ -194,23 +176,16 @@ neighbours_in (x ∷ y ∷ rest) a b h =
 
 -- an instruction that goes on leads to one of its static successors
 leads_direct : (x : Insn) (next : ℕ) (s : Machine) → (perform x next s).end ≡ None → has_node (direct x next) (perform x next s).cpu.rip ≡ true
-unfolding carry read_words
 leads_direct x next s e = go (way_of x) e
   where
     itself : (a : ℕ) (rest : List ℕ) → has_node (a ∷ rest) a ≡ true
     itself a rest = or_left (a == a) (has_node rest a) (eq-eqb a a refl)
 
-    IsNext : Option ℕ → Type 0
-    IsNext to = to ≡ None
+    effect : (o : Option Exception) (c : Completion) (to : ℕ) (l : List ℕ) → has_node l to ≡ true → (after_exception o c to s).end ≡ None → has_node l (after_exception o c to s).cpu.rip ≡ true
+    effect None c to l h k = h
+    effect (Some x) c to l h k = cc
 
-    AnyEnd : End → Type 0
-    AnyEnd why = Unit {0}
-
-    plain : (d : Done) → DoneHas IsNext AnyEnd (λ a. tt) d → (after_done d next s).end ≡ None → has_node (next ∷ []) (after_done d next s).cpu.rip ≡ true
-    plain (Stopped why) h k = cc
-    plain (Went regs flags mem to) h k = subst (λ o. has_node (next ∷ []) (onward o next) ≡ true) (sym h) (itself next [])
-
-    chosen : (b : Bool) (target : ℕ) → has_node (next ∷ target ∷ []) (onward (if b then Some target else None) next) ≡ true
+    chosen : (b : Bool) (target : ℕ) → has_node (next ∷ target ∷ []) (if b then target else next) ≡ true
     chosen true target = or_right (next == target) _ (itself target [])
     chosen false target = itself next (target ∷ [])
 
@@ -219,9 +194,9 @@ leads_direct x next s e = go (way_of x) e
     call None c k = itself next []
 
     go : (w : Way) → (perform_by w x next s).end ≡ None → has_node (direct_by (kind_in w) (target_in w) next) (perform_by w x next s).cpu.rip ≡ true
-    go Onward k = plain _ (carry_has IsNext AnyEnd (λ a. tt) (plainly (plain_effect x s.cpu.regs s.cpu.flags)) s.mem (λ words. refl)) k
-    go (Jumps target) k = itself target []
-    go (Branches cond target) k = chosen (holds cond s.cpu.flags) target
+    go Onward k = effect _ _ next (next ∷ []) (itself next []) k
+    go (Jumps target) k = effect _ _ target (target ∷ []) (itself target []) k
+    go (Branches cond target) k = effect _ _ _ (next ∷ target ∷ []) (chosen (holds cond s.cpu.flags) target) k
     go Calls k = call _ _ k
     go Halts k = cc
 

@@ -1,5 +1,7 @@
 pub mod Insn
 pub mod Kept
+pub mod Form
+pub mod Attempts
 pub mod Effect
 pub mod State
 pub mod Touches

@@ -9,21 +9,32 @@ use Rattle.rz_machine.specs.declared.machine.End.{End}
 use Rattle.rz_machine.specs.declared.machine.End.TheVariants as end
 use Rattle.rz_machine.specs.declared.machine.Machine.{Machine}
 use Rattle.rz_image.specs.Memory.{fetch, wrap}
-use Rattle.rz_machine.specs.Insn.{Decoder, Way, Calls, way_of}
-use Rattle.rz_machine.specs.Effect.{effect_by, carry, Done, Went, Stopped}
+use Rattle.rz_machine.specs.Insn.{Decoder, Way, way_of}
+use Rattle.rz_machine.specs.Form.{Divide, Popped, Exception, Memory, Own, Completion, first_word, carry, complete}
+use Rattle.rz_machine.specs.Effect.{Action, Passes, Leads, Asks, Ends, action_by}
 use Rattle.rz_sys.specs.Answer.{Called, answer, world_after}
 
-abbrev pub stopped : End → Machine → Machine
-stopped why s = record s { end = Some why }
+abbrev pub end_with : End → Machine → Machine
+end_with why s = record s { end = Some why }
 
--- where it goes on
-abbrev pub onward : Option ℕ → ℕ → ℕ
-onward None next = next
-onward (Some to) next = to
+-- the end by an exception
+abbrev pub end_of : Exception → End
+end_of (Memory bad) = end.Memory bad
+end_of (Own Divide) = end.Divide
+end_of (Own Popped) = end.Popped
 
-abbrev pub after_done : Done → ℕ → Machine → Machine
-after_done (Stopped why) next s = stopped why s
-after_done (Went regs flags mem to) next s = record s { cpu = record { regs = regs; rip = onward to next; flags = flags }; mem = mem }
+-- on to `to`; an exception ends the run at the instruction, with what the whole iterations of a repeat leave
+abbrev pub after_exception : Option Exception → Completion → ℕ → Machine → Machine
+after_exception None c to s = record s { cpu = record { regs = c.regs; rip = to; flags = c.flags }; mem = c.mem }
+after_exception (Some x) c to s =
+    record s {
+      cpu = record { regs = c.regs; rip = s.cpu.rip; flags = c.flags };
+      mem = c.mem;
+      end = Some (end_of x);
+    }
+
+abbrev pub after_effect : Completion → ℕ → Machine → Machine
+after_effect c to s = after_exception c.exception c to s
 
 -- RAX is the answer, RCX the next address, R11 the flags word (Intel SDM, volume 2, "SYSCALL")
 abbrev pub regs_after : List ℕ → Flags → ℕ → ℕ → List ℕ
@@ -41,13 +52,15 @@ after_exit None c next s =
 abbrev pub after_call : Called → ℕ → Machine → Machine
 after_call c next s = after_exit c.exit c next s
 
--- an instruction that isn't a system call
-abbrev pub perform_effect : Way → Insn → ℕ → Machine → Machine
-perform_effect w x next s = after_done (carry (effect_by w x s.cpu.rip s.cpu.regs s.cpu.flags) s.mem) next s
+-- an instruction's action, before `next`
+abbrev pub perform_action : Action → ℕ → Machine → Machine
+perform_action (Passes p) next s = after_effect (complete p s.cpu.regs s.cpu.flags s.mem) next s
+perform_action (Leads e to) next s = after_effect (carry e s.cpu.regs s.cpu.flags s.mem) (to (first_word e s.mem)) s
+perform_action Asks next s = after_call (answer s.cpu.regs s.mem s.world) next s
+perform_action (Ends why) next s = end_with why s
 
 abbrev pub perform_by : Way → Insn → ℕ → Machine → Machine
-perform_by Calls x next s = after_call (answer s.cpu.regs s.mem s.world) next s
-perform_by w x next s = perform_effect w x next s
+perform_by w x next s = perform_action (action_by w x s.cpu.rip next s.cpu.regs s.cpu.flags) next s
 
 -- an instruction before `next`
 abbrev pub perform : Insn → ℕ → Machine → Machine
@@ -59,8 +72,8 @@ decoded_at dec s = dec (fetch s.mem s.cpu.rip 15) s.cpu.rip
 
 abbrev pub act : Decoded → Machine → Machine
 act (decoded.Insn x len) s = perform x (wrap (s.cpu.rip + len)) s
-act decoded.Short s = stopped (end.Fetch s.cpu.rip) s
-act decoded.Unknown s = stopped (end.Unknown s.cpu.rip) s
+act decoded.Short s = end_with (end.Fetch s.cpu.rip) s
+act decoded.Unknown s = end_with (end.Unknown s.cpu.rip) s
 
 abbrev pub running : Option End → Decoder → Machine → Machine
 running None dec s = act (decoded_at dec s) s

@@ -1,22 +1,29 @@
 -- Which accesses a run makes: where it touches no byte of a range.
-use Rattle.std.specs.Prelude.{◌≡◌, ℕ, ◌<◌, None}
+use Rattle.std.specs.Prelude.{◌≡◌, ℕ, ◌+◌, ◌<◌, None}
 use Rattle.rz_machine.specs.declared.insn.Insn.{Insn}
 use Rattle.rz_machine.specs.declared.decode.Decoded.{Decoded}
 use Rattle.rz_machine.specs.declared.decode.Decoded.TheVariants as decoded
 use Rattle.rz_machine.specs.declared.machine.Machine.{Machine}
-use Rattle.rz_image.specs.Memory.{Range}
-use Rattle.rz_machine.specs.Insn.{Decoder, Way, Calls, way_of}
-use Rattle.rz_machine.specs.Effect.{effect_by, EffectClear}
+use Rattle.rz_image.specs.Memory.{Range, wrap}
+use Rattle.rz_machine.specs.Insn.{Decoder, Way, way_of}
+use Rattle.rz_machine.specs.Attempts.{EffectClear, PlainClear}
+use Rattle.rz_machine.specs.Effect.{Action, Passes, Leads, Asks, Ends, action_by}
 use Rattle.rz_sys.specs.Answer.{call_in, cut_count, rsi, rdx, CallClear}
 use Rattle.rz_machine.specs.State.{decoded_at, after}
 
-abbrev pub WayClear : Range → Way → Insn → Machine → Type 0
-WayClear r Calls x s = CallClear r (call_in s.cpu.regs) (rsi s.cpu.regs) (cut_count (rdx s.cpu.regs))
-WayClear r w x s = EffectClear r (effect_by w x s.cpu.rip s.cpu.regs s.cpu.flags) s.mem
+-- the accesses that an action attempts have no byte in the range
+abbrev pub ActionClear : Range → Action → Machine → Type 0
+ActionClear r (Passes p) s = PlainClear r p s.cpu.regs s.cpu.flags s.mem
+ActionClear r (Leads e to) s = EffectClear r e s.mem
+ActionClear r Asks s = CallClear r (call_in s.cpu.regs) (rsi s.cpu.regs) (cut_count (rdx s.cpu.regs))
+ActionClear r (Ends why) s = Unit {0}
 
--- the accesses that the instruction attempts have no byte in the range; fetching is no access
+abbrev pub WayClear : Range → Way → Insn → ℕ → Machine → Type 0
+WayClear r w x next s = ActionClear r (action_by w x s.cpu.rip next s.cpu.regs s.cpu.flags) s
+
+-- those of the instruction; fetching is no access
 abbrev pub InsnClear : Range → Decoded → Machine → Type 0
-InsnClear r (decoded.Insn x len) s = WayClear r (way_of x) x s
+InsnClear r (decoded.Insn x len) s = WayClear r (way_of x) x (wrap (s.cpu.rip + len)) s
 InsnClear r decoded.Short s = Unit {0}
 InsnClear r decoded.Unknown s = Unit {0}
 

@@ -1,18 +1,18 @@
 //! The machine: registers, memory and the outside, and its step.
 
 ghost use Rattle.std.specs.Prelude.{◌≡◌};
-ghost use Rattle.rz_machine.specs.Effect.{written as written_over, is_written};
+ghost use Rattle.rz_machine.specs.Effect.{is_written, merge as merge_of};
 ghost use Rattle.rz_machine.specs.TableLaws.{AreBytes};
 
-use rz_sys::call::syscall;
 use crate::decode::Decoded;
 use crate::insn::{Insn, Operand, Place, Reg};
-use rz_sys::world::World;
 use crate::table::InsnTable;
 use rz_alu::arith;
 use rz_flags::{ArithOp, Cond, Flags, holds, to_word};
 use rz_image::memory::Memory;
 use rz_num::{OutOfMemory, Width, mask};
+use rz_sys::call::syscall;
+use rz_sys::world::World;
 use std::alloc::Global;
 
 // Registers that a system call leaves changed (Intel SDM, volume 2, "SYSCALL").
@@ -29,7 +29,7 @@ pub struct Cpu {
     pub flags: Flags,
 }
 
-/// How a run ends.
+/// How a run ends. Registers and memory stay as they were before that step, but for the whole iterations of a repeat.
 #[derive(Clone, Copy, PartialEq, Eq, Debug)]
 pub enum End {
     /// By a system call, with this status.
@@ -68,8 +68,8 @@ pub enum Outcome {
 
 impl Machine {
     ghost use Rattle.std.specs.Prelude.{◌≡◌, ◌<◌, ℕ, OnOk, OnErr, IfOk};
-    ghost use Rattle.rz_machine.specs.State.{step as step_of, after as after_of, perform as perform_of, after_call};
-    ghost use Rattle.rz_sys.specs.Answer.{answer};
+    ghost use Rattle.rz_machine.specs.State.{step as step_of, after as after_of, perform as perform_of, perform_action};
+    ghost use Rattle.rz_machine.specs.Effect.{Asks};
     ghost use Rattle.rz_machine.specs.declared.insn.Reg.TheVariants.{R};
     ghost use Rattle.rz_machine.specs.declared.insn.Place.TheVariants as place;
     ghost use Rattle.rz_machine.specs.declared.insn.Operand.TheVariants.{Imm};
@@ -135,7 +135,7 @@ impl Machine {
     }
 
     // An instruction before `next`.
-    #[tactic(auto, unfolding(crate::specs::Effect::carry, crate::specs::Effect::read_words))]
+    #[tactic(auto, unfolding(crate::specs::Form::carry))]
     fn perform(&mut self, alloc: Global, insn: Insn, next: u64) -> Result<(), OutOfMemory>
         requires { IsNamed insn }
         ensures ok { OnOk result (self.new ≡ perform_of insn next self.old) }
@@ -154,7 +154,7 @@ impl Machine {
                 src: Operand::Imm(value),
             } => {
                 let old = self.cpu.regs[dst as usize];
-                self.cpu.regs[dst as usize] = written(w, old, value);
+                self.cpu.regs[dst as usize] = merge(w, old, value);
                 self.cpu.rip = next;
             }
             Insn::Jcc { cond, target } => self.branch(cond, target, next),
@@ -166,7 +166,7 @@ impl Machine {
     }
 
     // An operation on a register and a number, before `next`.
-    #[tactic(auto, unfolding(crate::specs::Effect::carry, crate::specs::Effect::read_words))]
+    #[tactic(auto, unfolding(crate::specs::Form::carry))]
     fn arith(&mut self, op: ArithOp, w: Width, dst: u8, value: u64, next: u64)
         requires { dst < 16 }
         ensures { self.new ≡ perform_of (insn.Arith op w (place.Reg (R dst)) (Imm value)) next self.old }
@@ -174,14 +174,14 @@ impl Machine {
         let old = self.cpu.regs[dst as usize];
         let (value, flags) = arith(op, w, old, value, self.cpu.flags);
         if writes(op) {
-            self.cpu.regs[dst as usize] = written(w, old, value);
+            self.cpu.regs[dst as usize] = merge(w, old, value);
         }
         self.cpu.flags = flags;
         self.cpu.rip = next;
     }
 
     // A conditional jump before `next`.
-    #[tactic(auto, unfolding(crate::specs::Effect::carry, crate::specs::Effect::read_words))]
+    #[tactic(auto, unfolding(crate::specs::Form::carry))]
     fn branch(&mut self, cond: Cond, target: u64, next: u64)
         ensures { self.new ≡ perform_of (insn.Jcc cond target) next self.old }
     {
@@ -194,7 +194,7 @@ impl Machine {
 
     // A system call before `next`.
     fn call(&mut self, alloc: Global, next: u64) -> Result<(), OutOfMemory>
-        ensures ok { OnOk result (self.new ≡ after_call (answer self.old.cpu.regs self.old.mem self.old.world) next self.old) }
+        ensures ok { OnOk result (self.new ≡ perform_action Asks next self.old) }
         ensures err { OnErr result (self.new ≡ self.old) }
     {
         match syscall(alloc, &mut self.cpu.regs, &mut self.mem, &mut self.world)? {
@@ -217,8 +217,8 @@ fn writes(op: ArithOp) -> bool
 }
 
 // A register after a value is written to it at a width.
-fn written(w: Width, old: u64, value: u64) -> u64
-    ensures { result ≡ written_over w old value }
+fn merge(w: Width, old: u64, value: u64) -> u64
+    ensures { result ≡ merge_of w old value }
 {
     match w {
         Width::W8 | Width::W16 => old - mask(w, old) + mask(w, value),
