@@ -3,8 +3,6 @@
 
 pub mod added;
 mod check;
-#[cfg(test)]
-mod check_tests;
 mod debloat;
 pub mod emit;
 pub mod fragment;
@@ -13,8 +11,6 @@ pub mod making;
 mod reading;
 pub mod rewrite;
 pub mod status;
-#[cfg(test)]
-mod tests;
 pub mod texts;
 pub mod tool;
 pub mod words;

@@ -30,7 +30,8 @@ impl MemStore {
     ) -> Result<MemStore, OutOfMemory>
         requires { HasDistinctNames files.items }
         ensures told { IfOk result (λ store. ⟦<MemStore as Store>⟧.told store ≡ true) }
-        ensures files { IfOk result (λ store. SameFiles (contents_of files.items) (⟦<MemStore as Store>⟧.files store)) }
+        ensures files { IfOk result (λ store.
+            SameFiles (contents_of files.items) (⟦<MemStore as Store>⟧.files store)) }
         ensures faults { IfOk result (λ store. ⟦<MemStore as Store>⟧.faults store ≡ 0) }
         ensures failed_name { IfOk result (λ store. ⟦<MemStore as Store>⟧.failed_name store ≡ []) }
     {
@@ -44,7 +45,8 @@ impl MemStore {
 
     /// What a name holds.
     pub fn get(&self, name: &str) -> Option<&[u8]>
-        ensures found { IfSome result (λ bytes. ⟦<MemStore as Store>⟧.files self.now name.now ≡ Some bytes.now) }
+        ensures found { IfSome result (λ bytes.
+            ⟦<MemStore as Store>⟧.files self.now name.now ≡ Some bytes.now) }
         ensures missing { IfNone result (⟦<MemStore as Store>⟧.files self.now name.now ≡ None) }
     {
         self.entries.get(name)

@@ -13,9 +13,13 @@ pub struct PlainSink {
 }
 
 impl PlainSink {
+    ghost use Rattle.rz_outside.specs.declared.plain_sink.PlainSink.{PlainSink};
+
     /// An empty sink.
     pub fn new(alloc: Global) -> PlainSink
-        ensures { ⟦<PlainSink as Sink>⟧.written result ≡ Some [] }
+        ensures written { ⟦<PlainSink as Sink>⟧.written result ≡ Some [] }
+        // At every moment, so that no call over it counts a failure.
+        ensures faults { (sink : PlainSink) → ⟦<PlainSink as Sink>⟧.faults sink ≡ 0 }
     {
         PlainSink {
             text: Bytes::new(alloc),

@@ -17,12 +17,17 @@ pub struct PlainStore {
 }
 
 impl PlainStore {
+    ghost use Rattle.rz_outside.specs.declared.plain_store.PlainStore.{PlainStore};
+
     /// A store of these files.
     pub fn new(alloc: Global, files: Vec<(Text, Bytes)>) -> Result<PlainStore, OutOfMemory>
         requires { HasDistinctNames files.items }
         ensures told { IfOk result (λ store. ⟦<PlainStore as Store>⟧.told store ≡ true) }
-        ensures files { IfOk result (λ store. SameFiles (contents_of files.items) (⟦<PlainStore as Store>⟧.files store)) }
+        ensures files { IfOk result (λ store.
+            SameFiles (contents_of files.items) (⟦<PlainStore as Store>⟧.files store)) }
         ensures failed_name { IfOk result (λ store. ⟦<PlainStore as Store>⟧.failed_name store ≡ []) }
+        // At every moment, so that no call over it counts a failure.
+        ensures faults { (store : PlainStore) → ⟦<PlainStore as Store>⟧.faults store ≡ 0 }
     {
         Ok(PlainStore {
             entries: Entries::from_vec(files),
@@ -32,7 +37,8 @@ impl PlainStore {
 
     /// What a name holds.
     pub fn get(&self, name: &str) -> Option<&[u8]>
-        ensures found { IfSome result (λ bytes. ⟦<PlainStore as Store>⟧.files self.now name.now ≡ Some bytes.now) }
+        ensures found { IfSome result (λ bytes.
+            ⟦<PlainStore as Store>⟧.files self.now name.now ≡ Some bytes.now) }
         ensures missing { IfNone result (⟦<PlainStore as Store>⟧.files self.now name.now ≡ None) }
     {
         self.entries.get(name)

@@ -69,7 +69,8 @@ pub trait Store {
         ensures named { failed_name self.new ≡ failed_after_read (failed_name self.old) name.now result }
 
         ensures read { IfOk result (ReadsFirst (told self.old) (files self.old) name.now max) }
-        ensures cause { IfErr result (ReadErrCause (told self.old) (files self.old) name.now (faults self.old) (faults self.new)) };
+        ensures cause { IfErr result (ReadErrCause (told self.old) (files self.old) name.now
+            (faults self.old) (faults self.new)) };
 
     /// Makes a name hold these bytes.
     fn write_all(&mut self, alloc: Global, name: &Text, bytes: &Bytes) -> Result<(), WriteErr>
@@ -80,5 +81,6 @@ pub trait Store {
 
         ensures written { OnOk result (Holds (told self.old) (files self.new) name.now bytes.now) }
         ensures cause { IfErr result (WriteErrCause (faults self.old) (faults self.new)) }
-        ensures left { IfErr result (WriteErrLeaves (told self.old) (files self.old) (files self.new) name.now bytes.now) };
+        ensures left { IfErr result (WriteErrLeaves (told self.old) (files self.old) (files self.new)
+            name.now bytes.now) };
 }

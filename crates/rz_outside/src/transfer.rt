@@ -17,7 +17,8 @@ pub struct Stopped;
 /// Where it stops, a first part of the bytes was written.
 pub fn write_whole<W: Write>(to: &mut W, bytes: &[u8]) -> Result<(), Stopped>
     ensures ok { OnOk result (Appends (W.contents to.old) (W.contents to.new) bytes.now) }
-    ensures part { OnErr result ((k : ℕ) × Appends (W.contents to.old) (W.contents to.new) (take k bytes.now)) }
+    ensures part { OnErr result ((k : ℕ)
+        × Appends (W.contents to.old) (W.contents to.new) (take k bytes.now)) }
 {
     let mut done = 0;
     while done < bytes.len() {
