@@ -6,9 +6,9 @@ use Rattle.rz_elf.specs.Elf.{fault_of}
 use Rattle.rz_machine.specs.First.{decode_first}
 use Rattle.rz_machine.specs.LeftCode.{left_at, LeavesCode, StaysInCode}
 use Rattle.rz_machine.specs.State.{after}
-use Rattle.rz_machine.specs.Thin.{IsThin}
-use Rattle.rz_machine.specs.ThinFault.{IsThinFault}
-use Rattle.rz_machine.proofs.ThinLoads.{thin_fault}
+use Rattle.rz_rewrite.specs.Thin.{IsThin}
+use Rattle.rz_rewrite.specs.ThinFault.{IsThinFault}
+use Rattle.rz_rewrite.proofs.ThinLoads.{thin_fault}
 use Rattle.rz_core.specs.declared.status.Status.{Status}
 use Rattle.rz_core.specs.declared.status.Status.TheVariants as status
 use Rattle.rz_core.specs.declared.status.Target.TheVariants as target

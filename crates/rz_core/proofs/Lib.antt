@@ -1,11 +1,3 @@
-pub mod FragmentLaws
-pub mod FragmentSteps
-pub mod Lowest
-pub mod NewPartsLaws
-pub mod Placed
-pub mod Rank
-pub mod RewriteLaws
-pub mod Trimmed
 pub mod FormLaws
 pub mod ReadLaws
 pub mod CauseLaws

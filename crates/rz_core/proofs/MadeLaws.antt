@@ -11,8 +11,8 @@ use Rattle.rz_elf.specs.Elf.{fault_of, image_of, Image}
 use Rattle.rz_machine.specs.Insn.{Decoder}
 use Rattle.rz_machine.specs.First.{decode_first}
 use Rattle.rz_elf.specs.Loaded.{loaded}
-use Rattle.rz_machine.specs.ThinElf.{thin_elf}
-use Rattle.rz_machine.specs.Thin.{IsThin}
+use Rattle.rz_rewrite.specs.ThinElf.{thin_elf}
+use Rattle.rz_rewrite.specs.Thin.{IsThin}
 use Rattle.rz_sys.specs.Input.{empty_input}
 use Rattle.rz_machine.specs.Start.{start}
 use Rattle.rz_machine.specs.Begun.{recorded}
@@ -25,7 +25,7 @@ use Rattle.rz_machine.specs.WrittenFile.{Inert}
 use Rattle.rz_machine.specs.Keeps.{Keeps}
 use Rattle.rz_machine.specs.Added.{added}
 use Rattle.rz_elf.specs.PlainImage.{IsPlainRegion, IsPlainImage}
-use Rattle.rz_machine.proofs.AddedLaws.{sites-first, site_edges-first}
+use Rattle.rz_rewrite.proofs.AddedLaws.{sites-first, site_edges-first}
 use Rattle.rz_image.proofs.Cells.{IsFixed, all_map, none_self_written}
 use Rattle.rz_elf.proofs.PlainAccepted.{accepted_plain}
 use Rattle.rz_core.specs.Texts.{report_text}

@@ -4,9 +4,9 @@ use Rattle.std.proofs.lemmas.Bool.{cases_lt}
 use Rattle.rz_elf.specs.declared.fault.ElfFault.{ElfFault}
 use Rattle.rz_elf.specs.declared.fault.ElfFault.TheVariants as fault
 use Rattle.rz_elf.specs.Elf.{Condition, first_of, file_conditions, header_conditions, load_conditions, placed, loads, file_header, fault_of}
-use Rattle.rz_machine.specs.Thin.{IsThin}
-use Rattle.rz_machine.specs.ThinFault.{IsThinFault, IsUnbuilt}
-use Rattle.rz_machine.proofs.ThinLaws.{length-thin_file}
+use Rattle.rz_rewrite.specs.Thin.{IsThin}
+use Rattle.rz_rewrite.specs.ThinFault.{IsThinFault, IsUnbuilt}
+use Rattle.rz_rewrite.proofs.ThinLaws.{length-thin_file}
 
 -- a thin file is small
 pub thin_small : (x : List ℕ) → IsThin x → length x ≤ 69632

@@ -6,8 +6,8 @@ use Rattle.rz_outside.specs.SinkAnswers.{appended}
 use Rattle.rz_elf.specs.Elf.{fault_of, image_of}
 use Rattle.rz_machine.specs.First.{decode_first}
 use Rattle.rz_machine.specs.LeftCode.{LeavesCode}
-use Rattle.rz_machine.specs.Thin.{IsThin}
-use Rattle.rz_machine.specs.ThinFault.{IsThinFault}
+use Rattle.rz_rewrite.specs.Thin.{IsThin}
+use Rattle.rz_rewrite.specs.ThinFault.{IsThinFault}
 use Rattle.rz_core.specs.declared.status.Status.{Status}
 use Rattle.rz_core.specs.declared.status.Status.TheVariants as status
 use Rattle.rz_core.specs.declared.status.Target.TheVariants as target

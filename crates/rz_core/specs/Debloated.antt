@@ -12,7 +12,7 @@ use Rattle.rz_machine.specs.Added.{added, site_count, site_edge_count}
 use Rattle.rz_machine.specs.Keeps.{Keeps}
 use Rattle.rz_machine.specs.Recorded.{IsUncut}
 use Rattle.rz_machine.specs.WrittenFile.{Inert}
-use Rattle.rz_machine.specs.Thin.{IsThin}
+use Rattle.rz_rewrite.specs.Thin.{IsThin}
 use Rattle.rz_core.specs.Texts.{report_text}
 
 -- the opening state of the traced run

@@ -5,7 +5,7 @@ use Rattle.rz_elf.specs.declared.fault.ElfFault.{ElfFault}
 use Rattle.rz_elf.specs.Elf.{fault_of}
 use Rattle.rz_machine.specs.First.{decode_first}
 use Rattle.rz_machine.specs.LeftCode.{LeavesCode, StaysInCode}
-use Rattle.rz_machine.specs.ThinFault.{IsThinFault}
+use Rattle.rz_rewrite.specs.ThinFault.{IsThinFault}
 use Rattle.rz_core.specs.declared.status.Status.{Status}
 use Rattle.rz_core.specs.declared.status.Status.TheVariants as status
 use Rattle.rz_core.specs.Words.{Debloat, Check, Form, Debloating, Checking}

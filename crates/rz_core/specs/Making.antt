@@ -7,8 +7,8 @@ use Rattle.rz_elf.specs.Elf.{fault_of, image_of}
 use Rattle.rz_machine.specs.First.{decode_first}
 use Rattle.rz_machine.specs.LeftCode.{LeavesCode}
 use Rattle.rz_elf.specs.Loaded.{loaded}
-use Rattle.rz_machine.specs.ThinElf.{thin_elf}
-use Rattle.rz_machine.specs.Thin.{IsThin}
+use Rattle.rz_rewrite.specs.ThinElf.{thin_elf}
+use Rattle.rz_rewrite.specs.Thin.{IsThin}
 use Rattle.rz_core.specs.declared.making.MakeRefusal.{MakeRefusal}
 use Rattle.rz_core.specs.declared.making.MakeRefusal.TheVariants as make
 use Rattle.rz_core.specs.declared.making.Made.{Made}

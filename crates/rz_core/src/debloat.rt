@@ -12,7 +12,7 @@ use crate::status::{Status, Target};
 use crate::words::Debloat;
 use rz_elf::elf::Elf;
 use rz_elf::fault::ElfError;
-use rz_machine::thin::read_thin;
+use rz_rewrite::thin::read_thin;
 use rz_num::{Bytes, OutOfMemory, Text};
 use rz_outside::{Store, WriteErr};
 use std::alloc::Global;

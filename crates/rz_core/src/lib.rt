@@ -1,15 +1,10 @@
-//! The top call: a command line over a store of files and a sink of text, and the rewriter that it stands on.
+//! The top call: a command line over a store of files and a sink of text.
 #![tactic(auto)]
 
-pub mod added;
 mod check;
 mod debloat;
-pub mod emit;
-pub mod fragment;
-pub mod layout;
 pub mod making;
 mod reading;
-pub mod rewrite;
 pub mod status;
 pub mod texts;
 pub mod tool;

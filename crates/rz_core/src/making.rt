@@ -14,7 +14,7 @@ ghost use Rattle.rz_core.specs.Debloated.{IsDebloated, kept_of, traced, report_o
 ghost use Rattle.rz_core.specs.Making.{IsOfThin, MakeRefused};
 ghost use Rattle.rz_core.specs.Texts.{report_text};
 
-use crate::rewrite::{New, rewrite};
+use rz_rewrite::rewrite::{New, rewrite};
 use crate::texts;
 use rz_elf::elf::Elf;
 use rz_machine::first::First;

@@ -11,8 +11,7 @@ use Rattle.rz_machine.specs.declared.machine.End.{End}
 use Rattle.rz_machine.specs.declared.machine.End.TheVariants as end
 use Rattle.rz_machine.specs.declared.machine.Machine.{Machine}
 use Rattle.rz_image.specs.Memory.{Regions, IsInside, wrap}
-use Rattle.rz_machine.specs.Insn.{Decoder, Way, Onward, Jumps, Branches, Calls, Halts, way_of}
-use Rattle.rz_machine.specs.First.{mov_number}
+use Rattle.rz_machine.specs.Insn.{Decoder, Way, Onward, Jumps, Branches, Calls, Halts, way_of, mov_number}
 use Rattle.rz_machine.specs.Form.{Exception, Memory, Own, Divide, Popped, Completion, carry, PlainEffect, complete}
 use Rattle.rz_machine.specs.Attempts.{PlainClear}
 use Rattle.rz_machine.specs.Effect.{plain_effect, end_by}

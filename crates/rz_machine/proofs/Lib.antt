@@ -1,7 +1,3 @@
-pub mod AddedLaws
-pub mod HeaderLaws
-pub mod ThinLaws
-pub mod WrittenLaws
 pub mod FormStands
 pub mod StepLaws
 pub mod CodeLaws
@@ -12,9 +8,6 @@ pub mod Runs
 pub mod Placed
 pub mod Comes
 pub mod Fragment
-pub mod Trimmed
-pub mod Emitted
-pub mod Images
 pub mod SetLaws
 pub mod StartCode
 pub mod TraceLaws
@@ -22,14 +15,5 @@ pub mod RecordedLaws
 pub mod TraceTurns
 pub mod Calls
 pub mod RunTurns
-pub mod ThinFiles
 pub mod StartRegions
-pub mod Parts
-pub mod KeepsWritten
-pub mod RewrittenLaws
-pub mod PlainNodes
-pub mod ThinKept
-pub mod ThinLoads
 pub mod EffectRows
-pub mod GreetingRuns
-pub mod ThinTraces

@@ -18,14 +18,11 @@ use Rattle.rz_machine.specs.declared.insn.Insn.TheVariants as insn
 use Rattle.rz_machine.specs.declared.decode.Decoded.{Decoded}
 use Rattle.rz_machine.specs.declared.decode.Decoded.TheVariants as decoded
 use Rattle.rz_image.specs.Memory.{wrap}
+use Rattle.rz_machine.specs.Insn.{mov_number}
 
 -- the address that a displacement of a width from `next` names; it is signed
 abbrev pub displaced : Width → ℕ → ℕ → ℕ
 displaced w next d = wrap (next + extend (half w) d)
-
--- MOV of a number to a 32-bit register
-abbrev pub mov_number : ℕ → ℕ → Insn
-mov_number r v = insn.Mov W32 (place.Reg (R r)) (Imm v)
 
 -- a 32-bit register and a byte, whose sign is extended
 abbrev pub arith_byte : ArithOp → ℕ → ℕ → Insn

@@ -19,8 +19,8 @@ use Rattle.rz_machine.specs.declared.insn.Insn.{Insn}
 use Rattle.rz_machine.specs.declared.insn.Insn.TheVariants as insn
 use Rattle.rz_machine.specs.declared.decode.Decoded.{Decoded}
 use Rattle.rz_machine.specs.declared.decode.Decoded.TheVariants as decoded
-use Rattle.rz_machine.specs.Insn.{IsNamed, target_of}
-use Rattle.rz_machine.specs.First.{displaced, mov_number, arith_byte, register_form, Spells, spells_add, spells_cmp, spells_mov, spells_jcc_short, spells_jcc, spells_jmp_short, spells_jmp, spells_syscall, spells_ud2, with_byte, with_four, is_in, arith_of, second_of, decode_first, displacement, digit_of, has_op, spelling, spelling_len, HasSpelling}
+use Rattle.rz_machine.specs.Insn.{IsNamed, target_of, mov_number}
+use Rattle.rz_machine.specs.First.{displaced, arith_byte, register_form, Spells, spells_add, spells_cmp, spells_mov, spells_jcc_short, spells_jcc, spells_jmp_short, spells_jmp, spells_syscall, spells_ud2, with_byte, with_four, is_in, arith_of, second_of, decode_first, displacement, digit_of, has_op, spelling, spelling_len, HasSpelling}
 use Rattle.rz_machine.specs.TableLaws.{AreBytes, Begins, NamesInsn, NamesInsns, SpelledWhereDecoded, DecodedWhereSpelled, BegunWhereShort, ShortWhereBegun}
 
 pub length-spelling : (x : Insn) (at : ℕ) → length (spelling x at) ≡ spelling_len x

@@ -1,5 +1,6 @@
 -- Instructions: how each goes on, its static successors, and what a table may name.
 use Rattle.std.specs.Prelude.{ℕ, ◌^◌, ◌<◌, Bool, true, false, List, [], ◌∷◌, Option, Some, None}
+use Rattle.rz_num.specs.declared.width.Width.TheVariants.{W32}
 use Rattle.rz_num.specs.Width.{size}
 use Rattle.rz_flags.specs.declared.Cond.{Cond}
 use Rattle.rz_machine.specs.declared.insn.Reg.TheVariants.{R}
@@ -86,3 +87,7 @@ IsNamed (insn.Jcc cond target) = target < 2 ^ 64
 IsNamed (insn.Jmp target) = target < 2 ^ 64
 IsNamed insn.Syscall = Unit {0}
 IsNamed insn.Ud2 = Unit {0}
+
+-- MOV of a number to a 32-bit register
+abbrev pub mov_number : ℕ → ℕ → Insn
+mov_number r v = insn.Mov W32 (place.Reg (R r)) (Imm v)

@@ -12,17 +12,10 @@ pub mod First
 pub mod Added
 pub mod Keeps
 pub mod WrittenFile
-pub mod Thin
-pub mod Greeting
-pub mod Fragments
 pub mod Pace
 pub mod LeftCode
 pub mod Traced
 pub mod TableLaws
 pub mod FirstLaws
 pub mod Ran
-pub mod ThinElf
-pub mod ThinFault
-pub mod ThinPage
-pub mod Rewritten
 pub mod Recorded

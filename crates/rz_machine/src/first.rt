@@ -6,7 +6,8 @@ ghost use Rattle.rz_num.specs.declared.width.Width.TheVariants.{W8, W32};
 ghost use Rattle.rz_num.specs.Width.{size};
 ghost use Rattle.rz_flags.specs.Cond.{cond_of};
 ghost use Rattle.rz_machine.specs.declared.insn.Insn.TheVariants as insn;
-ghost use Rattle.rz_machine.specs.First.{decode_first, mov_number, arith_byte, with_byte as with_byte_of, with_four, arith_of, second_of, displaced};
+ghost use Rattle.rz_machine.specs.First.{decode_first, arith_byte, with_byte as with_byte_of, with_four, arith_of, second_of, displaced};
+ghost use Rattle.rz_machine.specs.Insn.{mov_number};
 
 use crate::decode::Decoded;
 use crate::insn::{Insn, Operand, Place, Reg};

@@ -2,18 +2,13 @@
 #![tactic(auto)]
 
 pub mod decode;
-pub mod elf_law;
-pub mod elf_write;
 pub mod encode;
 pub mod first;
 pub mod insn;
-pub mod items;
 pub mod kinds;
-pub mod law;
 pub mod machine;
 pub mod start;
 pub mod table;
-pub mod thin;
 pub mod trace;
 #[cfg(test)]
 mod trace_tests;

@@ -1,5 +1,5 @@
 use Rattle.std.proofs.Common.{◌≡◌, sym, ap, ◌∙◌, subst, Some}
-use Rattle.rz_machine.specs.ThinFault.{IsThinCause}
+use Rattle.rz_rewrite.specs.ThinFault.{IsThinCause}
 use Rattle.rz_elf.specs.declared.elf.Elf.{Elf}
 use Rattle.rz_core.proofs.ReadLaws.{thin_whole, thin_fault_whole}
 use Rattle.rz_core.proofs.MadeLaws.{of_thin}

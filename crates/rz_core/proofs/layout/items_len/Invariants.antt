@@ -1,6 +1,0 @@
-use Rattle.std.proofs.Common.{◌≡◌, ◌+◌, drop}
-use Rattle.rz_machine.specs.Fragments.{items_len}
-use Rattle.rz_core.proofs.layout.items_len.Given as goal
-
-abbrev pub invariant-loop-item : goal.invariant-loop-item
-invariant-loop-item l = l.total + items_len (drop l.item-index l.items) ≡ items_len l.items

@@ -1,5 +1,0 @@
-use Rattle.rz_machine.proofs.KeepsWritten.{keeps_written, paced_written}
-use Rattle.rz_machine.proofs.law.fragments_keep.Goals as goal
-
-pub returns : goal.returns
-returns c = record { keeps = keeps_written; paced = paced_written }

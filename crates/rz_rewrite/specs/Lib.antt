@@ -1,0 +1,10 @@
+pub mod Thin
+pub mod Greeting
+pub mod Fragments
+pub mod ThinElf
+pub mod ThinFault
+pub mod ThinPage
+pub mod Rewritten
+pub mod Spellable
+pub mod Places
+pub mod NewParts

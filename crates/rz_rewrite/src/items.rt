@@ -1,0 +1,85 @@
+//! Items: the instructions of a new file, before they have their places.
+
+ghost use Rattle.std.specs.Prelude.{◌≡◌, [], ◌∷◌, ◌++◌, OnOk, OnErr, IfOk};
+
+use rz_machine::insn::Insn;
+use rz_flags::Cond;
+use rz_num::OutOfMemory;
+use std::alloc::Global;
+use std::marker::Model;
+
+/// What a jump leads to.
+#[derive(Clone, Copy, PartialEq, Eq)]
+pub enum Label {
+    /// The first item of the fragment of an address.
+    Place(u64),
+    /// The stub of an address.
+    Stub(u64),
+}
+
+/// One instruction of the new file.
+#[derive(Clone, Copy, PartialEq, Eq)]
+pub enum Item {
+    /// An instruction as it is.
+    Whole(Insn),
+    /// A jump to a label, under a condition or always.
+    Jump { cond: Option<Cond>, to: Label },
+}
+
+/// Items one after the other.
+#[derive(Drop)]
+pub struct Items {
+    items: Vec<Item>,
+}
+
+impl Model for Items {
+    ghost use Rattle.std.specs.Prelude.{List};
+    ghost use Rattle.rz_rewrite.specs.declared.items.Item.{Item};
+
+    ghost Value = { List Item };
+
+    ghost view = { λ i. i.items.items };
+}
+
+impl Items {
+    /// No items. It takes no memory.
+    pub fn new(alloc: Global) -> Items
+        ensures { result ≡ [] }
+    {
+        Items {
+            items: Vec::new(alloc),
+        }
+    }
+
+    /// A copy of a slice. It refuses for want of memory alone.
+    pub fn from_slice(alloc: Global, items: &[Item]) -> Result<Items, OutOfMemory>
+        ensures { IfOk result (λ list. list ≡ items.now) }
+    {
+        Ok(Items {
+            items: Vec::from_slice(alloc, items)?,
+        })
+    }
+
+    /// Appends an item. It refuses for want of memory alone, and then the items are unchanged.
+    pub fn push(&mut self, item: Item) -> Result<(), OutOfMemory>
+        ensures ok { OnOk result (self.new ≡ self.old ++ item ∷ []) }
+        ensures err { OnErr result (self.new ≡ self.old) }
+    {
+        self.items.push(item)?;
+        Ok(())
+    }
+
+    /// The items as a slice.
+    pub fn as_slice(&self) -> &[Item]
+        ensures { result.now ≡ self.now }
+    {
+        self.items.as_slice()
+    }
+}
+
+/// The items that stand for the instruction at an address.
+#[derive(Drop)]
+pub struct Fragment {
+    pub at: u64,
+    pub items: Items,
+}
