@@ -1,0 +1,4 @@
+pub mod Places
+pub mod Linking
+pub mod Walks
+pub mod Reaching

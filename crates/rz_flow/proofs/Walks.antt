@@ -1,0 +1,69 @@
+-- Walks, one edge longer and from end to end.
+use Rattle.std.proofs.Common.{◌≡◌, ℕ, zero, suc, Bool, true, false, ◌&&◌, List, [], ◌∷◌, inl, inr, refl, sym, ◌∙◌, subst, nat_eq, eq-eqb, ne_eqb}
+use Rattle.std.proofs.lemmas.Bool.{cases_eq}
+use Rattle.rz_links.specs.declared.arena.Family.{Family}
+use Rattle.rz_links.specs.declared.arena.Family.TheVariants.{Out, In}
+use Rattle.rz_aset.specs.Sets.{has, has_edge}
+use Rattle.rz_flow.specs.Flow.{Flow, Walk, neighbours}
+use Rattle.rz_flow.specs.Calls.Linked.{IsReached}
+
+-- an address is among the neighbours of a node exactly where the edge is there
+pub has-neighbours_out : (edges : List (ℕ × ℕ)) (a b : ℕ) → has (neighbours Out edges a) b ≡ has_edge edges (a, b)
+has-neighbours_out [] a b = refl
+has-neighbours_out (e ∷ edges) a b =
+    let rest = has-neighbours_out edges a b in
+    elim (cases_eq e.0 a) [
+      | inl same ↦ rw (eq-eqb e.0 a same, eq-eqb a e.0 (sym same), rest) refl
+      | inr ne ↦ rw (ne_eqb e.0 a ne, ne_eqb a e.0 (λ same. ne (sym same)), rest) refl
+    ]
+
+and_true : (p : Bool) → (p && true) ≡ p
+and_true true = refl
+and_true false = refl
+
+and_false : (p : Bool) → (p && false) ≡ false
+and_false true = refl
+and_false false = refl
+
+pub has-neighbours_in : (edges : List (ℕ × ℕ)) (a b : ℕ) → has (neighbours In edges b) a ≡ has_edge edges (a, b)
+has-neighbours_in [] a b = refl
+has-neighbours_in (e ∷ edges) a b =
+    let rest = has-neighbours_in edges a b in
+    elim (cases_eq e.1 b) [
+      | inl same ↦ rw (eq-eqb e.1 b same, eq-eqb b e.1 (sym same), rest, and_true (nat_eq a e.0)) refl
+      | inr ne ↦ rw (ne_eqb e.1 b ne, ne_eqb b e.1 (λ same. ne (sym same)), rest, and_false (nat_eq a e.0)) refl
+    ]
+
+-- an edge more at the end of a walk
+walk_more : (edges : List (ℕ × ℕ)) (n a b c : ℕ) → Walk edges n a b → has_edge edges (b, c) ≡ true → Walk edges (suc n) a c
+walk_more edges zero a b c w e = (c, subst (λ x. has_edge edges (x, c) ≡ true) (sym w) e, refl)
+walk_more edges (suc n) a b c w e = (w.0, w.1, walk_more edges n w.0 b c w.2 e)
+
+module _ (flow : Flow) (starts : List ℕ) where
+  -- a start that is a node reaches itself
+  pub reached_start : (f : Family) (s : ℕ) → has starts s ≡ true → has flow.nodes s ≡ true → IsReached f flow starts s
+  reached_start Out s h k = (s, h, k, (zero, refl))
+  reached_start In s h k = (s, h, k, (zero, refl))
+
+  -- and so do the neighbours of what is reached
+  pub reached_more : (f : Family) (a b : ℕ) → IsReached f flow starts a → has (neighbours f flow.edges a) b ≡ true → IsReached f flow starts b
+  reached_more Out a b r h =
+      (r.0, r.1, r.2, (suc r.3.0, walk_more flow.edges r.3.0 r.0 a b r.3.1 (sym (has-neighbours_out flow.edges a b) ∙ h)))
+  reached_more In a b r h =
+      (r.0, r.1, r.2, (suc r.3.0, (a, sym (has-neighbours_in flow.edges b a) ∙ h, r.3.1)))
+
+  -- what has the starts, and the neighbours of each that it has, has all that is reached
+  module _ (found : List ℕ) (begun : (s : ℕ) → has starts s ≡ true → has flow.nodes s ≡ true → has found s ≡ true) where
+    along : (n a b : ℕ) → ((c d : ℕ) → has found c ≡ true → has_edge flow.edges (c, d) ≡ true → has found d ≡ true) → Walk flow.edges n a b → has found a ≡ true → has found b ≡ true
+    along zero a b closed w h = subst (λ x. has found x ≡ true) w h
+    along (suc n) a b closed w h = along n w.0 b closed w.2 (closed a w.0 h w.1)
+
+    against : (n a b : ℕ) → ((c d : ℕ) → has found d ≡ true → has_edge flow.edges (c, d) ≡ true → has found c ≡ true) → Walk flow.edges n a b → has found b ≡ true → has found a ≡ true
+    against zero a b closed w h = subst (λ x. has found x ≡ true) (sym w) h
+    against (suc n) a b closed w h = closed a w.0 (against n w.0 b closed w.2 h) w.1
+
+    pub all_reached : (f : Family) → ((a b : ℕ) → has found a ≡ true → has (neighbours f flow.edges a) b ≡ true → has found b ≡ true) → (b : ℕ) → IsReached f flow starts b → has found b ≡ true
+    all_reached Out closed b r =
+        along r.3.0 r.0 b (λ c d h e. closed c d h (has-neighbours_out flow.edges c d ∙ e)) r.3.1 (begun r.0 r.1 r.2)
+    all_reached In closed b r =
+        against r.3.0 b r.0 (λ c d h e. closed d c h (has-neighbours_in flow.edges c d ∙ e)) r.3.1 (begun r.0 r.1 r.2)

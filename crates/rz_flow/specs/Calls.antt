@@ -1,0 +1,2 @@
+-- Words of the contracts of inner calls.
+pub mod Linked

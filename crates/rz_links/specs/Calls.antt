@@ -1,0 +1,4 @@
+-- Words of the contracts of inner calls.
+pub mod Links
+pub mod Chains
+pub mod Linked

@@ -1,0 +1,2 @@
+-- Lemmas that ghost fields cite.
+pub mod Chains

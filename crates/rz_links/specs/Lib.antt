@@ -1,0 +1,4 @@
+pub mod Lists
+pub mod Arena
+pub mod Calls
+pub mod Laws
