@@ -1,5 +1,4 @@
 ghost use Rattle.rz_isa.specs.Table.{OneRow, Lengths, OneCanonicalRow, CanonicalSpells};
-ghost use Rattle.rz_isa.specs.Takes.{UntakenUnknown};
 
 use crate::table::InsnTable;
 
@@ -22,10 +21,4 @@ pub fn one_canonical_row<T: InsnTable>()
 /// A canonical spelling is a spelling by the canonical row, and names the instruction.
 pub fn canonical_spells<T: InsnTable>()
     ensures { CanonicalSpells T.rows }
-{}
-
-/// Bytes whose front no row takes are unknown, whatever follows: no front of them is a spelling,
-/// and they begin none. The front is the prefixes, REX, the opcode and the ModRM byte.
-pub fn untaken_unknown<T: InsnTable>()
-    ensures { UntakenUnknown T.rows }
 {}

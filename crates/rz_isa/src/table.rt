@@ -3,8 +3,10 @@ ghost use Rattle.std.specs.List.{list_all};
 ghost use Rattle.rz_isa.specs.declared.rows.Row.{Row};
 ghost use Rattle.rz_isa.specs.Table.{is_plain, all_exclude};
 ghost use Rattle.rz_isa.specs.Regular.{is_regular};
+ghost use Rattle.rz_isa.specs.Index.{ListsOpcode, numbers_of};
 
-use crate::rows::Row;
+use crate::classes::Class;
+use crate::rows::{OpMap, Row};
 
 /// An instruction table: its rows by their numbers.
 pub trait InsnTable {
@@ -20,6 +22,14 @@ pub trait InsnTable {
         requires { n < length rows }
         ensures value { slice_get rows n ≡ Some result }
         ensures regular { IsTrue (is_regular result) };
+
+    /// The numbers of the rows that have the opcode, in any order, and perhaps others.
+    fn rows_at(map: OpMap, opcode: u8) -> &'static [u8]
+        ensures { ListsOpcode rows map opcode result.now };
+
+    /// The numbers of the rows of the class, ascending.
+    fn rows_of(class: Class) -> &'static [u8]
+        ensures { result.now ≡ numbers_of class 0 rows };
 
     /// No opcode of one byte is a prefix, REX or the escape, and each digit has its ModRM byte.
     ghost plain: { IsTrue (list_all is_plain rows) };

@@ -1,2 +1,3 @@
+pub mod Index
 pub mod Worked
-pub mod Short
+pub mod Decoded

@@ -3,9 +3,13 @@ ghost use Rattle.rz_isa.specs.Emitted.{Emits};
 ghost use Rattle.rz_isa.specs.Table.{OneRow, Lengths, OneCanonicalRow, CanonicalSpells};
 ghost use Rattle.rz_table.specs.declared.early_rows.TheConstants.{EARLY};
 
+use crate::early_index::{
+    EARLY_CLASS_ROWS, EARLY_CLASS_STARTS, EARLY_OPCODE_ROWS, EARLY_OPCODE_STARTS,
+};
 use crate::early_rows::EARLY;
+use crate::index::{cell, class_place, opcode_place};
 use crate::profile::pick;
-use rz_isa::{InsnTable, Row};
+use rz_isa::{Class, InsnTable, OpMap, Row};
 
 /// A part of profile 1 that has direct transfers alone. It has 33 rows.
 #[derive(Clone, Copy)]
@@ -31,6 +35,18 @@ impl InsnTable for Early {
 
     fn row(n: usize) -> Row {
         pick(&EARLY, n)
+    }
+
+    fn rows_at(map: OpMap, opcode: u8) -> &'static [u8] {
+        cell(
+            &EARLY_OPCODE_STARTS,
+            &EARLY_OPCODE_ROWS,
+            opcode_place(map, opcode),
+        )
+    }
+
+    fn rows_of(class: Class) -> &'static [u8] {
+        cell(&EARLY_CLASS_STARTS, &EARLY_CLASS_ROWS, class_place(class))
     }
 
     ghost plain = { refl };

@@ -3,8 +3,12 @@ ghost use Rattle.rz_isa.specs.Emitted.{Emits};
 ghost use Rattle.rz_isa.specs.Table.{OneRow, Lengths, OneCanonicalRow, CanonicalSpells};
 ghost use Rattle.rz_table.specs.declared.profile_rows.TheConstants.{PROFILE};
 
+use crate::index::{cell, class_place, opcode_place};
+use crate::profile_index::{
+    PROFILE_CLASS_ROWS, PROFILE_CLASS_STARTS, PROFILE_OPCODE_ROWS, PROFILE_OPCODE_STARTS,
+};
 use crate::profile_rows::PROFILE;
-use rz_isa::{InsnTable, Row};
+use rz_isa::{Class, InsnTable, OpMap, Row};
 
 /// The table of profile 1. It has 203 rows.
 #[derive(Clone, Copy)]
@@ -38,6 +42,22 @@ impl InsnTable for Profile1 {
 
     fn row(n: usize) -> Row {
         pick(&PROFILE, n)
+    }
+
+    fn rows_at(map: OpMap, opcode: u8) -> &'static [u8] {
+        cell(
+            &PROFILE_OPCODE_STARTS,
+            &PROFILE_OPCODE_ROWS,
+            opcode_place(map, opcode),
+        )
+    }
+
+    fn rows_of(class: Class) -> &'static [u8] {
+        cell(
+            &PROFILE_CLASS_STARTS,
+            &PROFILE_CLASS_ROWS,
+            class_place(class),
+        )
     }
 
     ghost plain = { refl };
