@@ -1,5 +1,5 @@
 ghost use Rattle.std.specs.Prelude.{◌≡◌, ◌<◌, ◌≤◌, length, IsTrue};
-ghost use Rattle.rz_isa.specs.Fields.{imm_of as imm_by, rm_width as rm_width_of, rm_place as rm_place_of, reg_field as reg_field_of, reg_number as reg_number_of, rep_of as rep_by, fields as fields_by};
+ghost use Rattle.rz_isa.specs.Fields.{imm_of as imm_by, rm_width as rm_width_of, rm_place as rm_place_of, reg_field as reg_field_of, reg_number as reg_number_of, repeat_in as repeat_among, rep_of as rep_by, fields as fields_by};
 ghost use Rattle.rz_decode.specs.Views.{parts_view, is_whole_rm};
 
 use crate::fit::width;
@@ -66,11 +66,18 @@ fn rm_place(rule: Option<RmRule>, w: Width, rex: Option<u8>, next: u64, rm: &[u8
     }
 }
 
-fn rep_of(rule: F3Rule, count: usize) -> u8
-    ensures { result ≡ rep_by rule count }
+// The byte of the repeat prefix, 0 where none stands.
+fn repeat_in(prefixes: &[u8]) -> u8
+    ensures { result ≡ repeat_among prefixes.now }
+{
+    if times(0xf3, prefixes) == 0 { 0 } else { 0xf3 }
+}
+
+fn rep_of(rule: F3Rule, repeat: u8) -> u8
+    ensures { result ≡ rep_by rule repeat }
 {
     match rule {
-        F3Rule::Repeats if count > 0 => 0xf3,
+        F3Rule::Repeats => repeat,
         _ => 0,
     }
 }
@@ -88,6 +95,6 @@ pub fn fields(row: &Row, p: &Parts, next: u64) -> Fields
         rm: rm_place(row.rm, rm_width(row.op, w), p.rex, next, p.rm),
         cond: if row.span == 16 { p.opcode % 16 } else { 0 },
         imm: imm_of(row.imm, w, next, p.imm),
-        rep: rep_of(row.f3, times(0xf3, p.prefixes)),
+        rep: rep_of(row.f3, repeat_in(p.prefixes)),
     }
 }
