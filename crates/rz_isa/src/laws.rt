@@ -1,3 +1,5 @@
+ghost use Rattle.std.specs.Prelude.{IsTrue};
+ghost use Rattle.rz_isa.specs.Emitted.{Emits, EmitsLookup, has_lookup};
 ghost use Rattle.rz_isa.specs.Table.{OneRow, Lengths, OneCanonicalRow, CanonicalSpells};
 
 use crate::table::InsnTable;
@@ -21,4 +23,11 @@ pub fn one_canonical_row<T: InsnTable>()
 /// A canonical spelling is a spelling by the canonical row, and names the instruction.
 pub fn canonical_spells<T: InsnTable>()
     ensures { CanonicalSpells T.rows }
+{}
+
+/// The instructions that fragments and stubs are made of have canonical spellings; a table with
+/// transfers that are looked up has those of the lookup routine, too.
+pub fn emits<T: InsnTable>()
+    ensures emits { Emits T.rows }
+    ensures lookup { IsTrue (has_lookup T.rows) → EmitsLookup T.rows }
 {}

@@ -1,3 +1,6 @@
 pub mod Index
 pub mod Worked
 pub mod Decoded
+pub mod Prefixes
+pub mod Spellings
+pub mod Laws

@@ -1,7 +1,7 @@
 ghost use Rattle.std.specs.Prelude.{◌≡◌, length, refl};
-ghost use Rattle.rz_isa.specs.Emitted.{Emits};
 ghost use Rattle.rz_isa.specs.Table.{OneRow, Lengths, OneCanonicalRow, CanonicalSpells};
 ghost use Rattle.rz_table.specs.declared.early_rows.TheConstants.{EARLY};
+ghost use Rattle.rz_table.specs.Laws.EarlyEmits.{emits, emits_lookup};
 
 use crate::early_index::{
     EARLY_CLASS_ROWS, EARLY_CLASS_STARTS, EARLY_OPCODE_ROWS, EARLY_OPCODE_STARTS,
@@ -20,15 +20,13 @@ impl InsnTable for Early {
 
     /// How many rows there are. The clauses are the laws of the table: no bytes are spelled by
     /// two rows, every spelling has 1 to 15 bytes, an instruction has one canonical row for each
-    /// form that it has, a canonical spelling names its instruction, and the instructions that a
-    /// written file is made of have canonical spellings.
+    /// form that it has, and a canonical spelling names its instruction.
     fn count() -> usize
         ensures length { result ≡ length EARLY }
         ensures one_row { OneRow EARLY }
         ensures lengths { Lengths EARLY }
         ensures one_canonical_row { OneCanonicalRow EARLY }
         ensures canonical_spells { CanonicalSpells EARLY }
-        ensures emits { Emits EARLY }
     {
         EARLY.len()
     }
@@ -54,4 +52,8 @@ impl InsnTable for Early {
     ghost exclude = { refl };
 
     ghost regular = { refl };
+
+    ghost emits = { emits };
+
+    ghost emits_lookup = { emits_lookup };
 }

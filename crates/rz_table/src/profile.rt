@@ -1,7 +1,7 @@
 ghost use Rattle.std.specs.Prelude.{◌≡◌, ◌<◌, length, slice_get, Some, refl};
-ghost use Rattle.rz_isa.specs.Emitted.{Emits};
 ghost use Rattle.rz_isa.specs.Table.{OneRow, Lengths, OneCanonicalRow, CanonicalSpells};
 ghost use Rattle.rz_table.specs.declared.profile_rows.TheConstants.{PROFILE};
+ghost use Rattle.rz_table.specs.Laws.ProfileEmits.{emits, emits_lookup};
 
 use crate::index::{cell, class_place, opcode_place};
 use crate::profile_index::{
@@ -27,15 +27,13 @@ impl InsnTable for Profile1 {
 
     /// How many rows there are. The clauses are the laws of the table: no bytes are spelled by
     /// two rows, every spelling has 1 to 15 bytes, an instruction has one canonical row for each
-    /// form that it has, a canonical spelling names its instruction, and the instructions that a
-    /// written file is made of have canonical spellings.
+    /// form that it has, and a canonical spelling names its instruction.
     fn count() -> usize
         ensures length { result ≡ length PROFILE }
         ensures one_row { OneRow PROFILE }
         ensures lengths { Lengths PROFILE }
         ensures one_canonical_row { OneCanonicalRow PROFILE }
         ensures canonical_spells { CanonicalSpells PROFILE }
-        ensures emits { Emits PROFILE }
     {
         PROFILE.len()
     }
@@ -65,4 +63,8 @@ impl InsnTable for Profile1 {
     ghost exclude = { refl };
 
     ghost regular = { refl };
+
+    ghost emits = { emits };
+
+    ghost emits_lookup = { emits_lookup };
 }
