@@ -23,8 +23,8 @@ use Rattle.rz_isa.specs.declared.instruction.Place.{Place}
 use Rattle.rz_isa.specs.declared.instruction.Place.TheVariants as places
 use Rattle.rz_isa.specs.Number.{are_bytes, number, numbers, extended, displaced_by}
 use Rattle.rz_isa.specs.Spelling.{Parts, Fits, bit_w, bit_r, bit_x, bit_b, is_met, w_demand, b_demand, disp_len, rm_len, second, rm_fits, width_of, width_at, imm_len, times}
-use Rattle.rz_isa.specs.Fields.{reg_of, index_of, base_of, sib_mem, base_mem, behind_one, place_of, rm_place, rm_width, reg_field, reg_number, imm_of, rep_of, fields}
-use Rattle.rz_isa.specs.Having.{is_wide, has_width, code_of, is_register, is_first, is_high, is_low_byte, in_reg_field, in_opcode, is_number, is_index, is_memory, names_register, names_memory, has_place, has_cond, has_imm, has_rep, w_needed, x_needed, place_b, b_needed, rex_needed, low_byte_place, high_place, number_in, needs_rex, bars_rex, opcode_of, can_have}
+use Rattle.rz_isa.specs.Fields.{reg_of, index_of, base_of, sib_mem, base_mem, behind_one, place_of, rm_place, rm_width, reg_field, reg_number, imm_of, repeat_in, rep_of, fields}
+use Rattle.rz_isa.specs.Having.{is_wide, has_width, code_of, is_register, is_first, is_high, is_low_byte, in_reg_field, in_opcode, is_number, is_index, is_memory, names_register, names_memory, has_place, has_cond, has_imm, is_repeat, has_rep, w_needed, x_needed, place_b, b_needed, rex_needed, low_byte_place, high_place, number_in, needs_rex, bars_rex, opcode_of, can_have}
 use Rattle.rz_isa.specs.Regular.{is_regular, is_block, is_exchange}
 use Rattle.rz_isa.proofs.Numbers.{number_less, numbers_of, numbers_full, signed_is_disp, extended_byte, extended_four}
 use Rattle.rz_isa.proofs.Again.{can_of}
@@ -265,11 +265,12 @@ imm_had (Some imms.Iv) W64 next bs h len = number_below bs (2 ^ 64) h (numbers_f
 imm_had (Some imms.J8) w next bs h len = address_small (next + extended bs)
 imm_had (Some imms.J32) w next bs h len = address_small (next + extended bs)
 
-pub rep_of_prefixes : (r : F3Rule) (n : ℕ) → has_rep r (rep_of r n) ≡ true
-rep_of_prefixes f3s.Repeats n = if_both (λ k. (k == 0 || k == 0xf3) ≡ true) (n == 0) 0 0xf3 (λ _. refl) (λ _. refl)
-rep_of_prefixes f3s.No n = refl
-rep_of_prefixes f3s.Allowed n = refl
-rep_of_prefixes f3s.Required n = refl
+pub repeat_in-is : (ps : List ℕ) → is_repeat (repeat_in ps) ≡ true
+repeat_in-is ps = if_both (λ k. is_repeat k ≡ true) (times 0xf3 ps == 0) 0 0xf3 (λ _. refl) (λ _. refl)
+
+pub rep_of_prefixes : (r : F3Rule) (b : ℕ) → is_repeat b ≡ true → has_rep r (rep_of r b) ≡ true
+rep_of_prefixes f3s.Repeats b h = h
+rep_of_prefixes _ b h = refl
 
 -- ---- REX: with one no register is AH, CH, DH or BH, without one none needs it
 
@@ -523,7 +524,7 @@ fields_had row p next regular fit rm imm =
       rm = place_had row.rm row.digit (rm_width row.op w) p.rex next p.rm fit.rm rm;
       cond = cond_of_opcode row.span p.opcode;
       imm = imm_had row.imm w next p.imm imm (rm_length (length p.imm) (imm_len row.imm w) fit.imm);
-      rep = rep_of_prefixes row.f3 (times 0xf3 p.prefixes);
+      rep = rep_of_prefixes row.f3 (repeat_in p.prefixes) (repeat_in-is p.prefixes);
       rex = rex_joined row p next fit;
       b = demand_met row p next (regular_of row regular) fit;
     })

@@ -15,4 +15,3 @@ pub mod Parts
 pub mod Whole
 pub mod Choice
 pub mod Served
-pub mod Untaken

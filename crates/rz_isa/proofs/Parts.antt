@@ -18,9 +18,9 @@ use Rattle.rz_isa.specs.declared.instruction.Place.TheVariants as places
 use Rattle.rz_isa.specs.declared.spelled.Fields.{Fields}
 use Rattle.rz_isa.specs.Number.{are_bytes}
 use Rattle.rz_isa.specs.Spelling.{times, most_66, takes_66, prefixes_fit, f3_demand, is_rex, rex_fits, bit_w, bit_r, bit_x, bit_b, is_met, w_demand, rm_fits, rule_fits, rm_len, second, width_of}
-use Rattle.rz_isa.specs.Fields.{reg_of, is_rep, place_of, rm_place, rm_width, reg_field, reg_number, rep_of}
-use Rattle.rz_isa.specs.Having.{is_wide, is_half, has_width, code_of, is_register, is_first, is_high, is_low_byte, in_reg_field, in_opcode, has_reg, is_number, is_index, is_disp, names_register, names_memory, is_first_place, has_place, has_rep, number_in, w_needed, r_needed, x_needed, place_b, b_needed, rex_needed, low_byte_place, high_place, needs_rex}
-use Rattle.rz_isa.specs.Canonical.{stands_f3, prefixes_for, rex_for, place_bytes, reg_bits, rm_bytes, place_reaches}
+use Rattle.rz_isa.specs.Fields.{reg_of, place_of, rm_place, rm_width, reg_field, reg_number, repeat_in, rep_of}
+use Rattle.rz_isa.specs.Having.{is_wide, is_half, has_width, code_of, is_register, is_first, is_high, is_low_byte, in_reg_field, in_opcode, has_reg, is_number, is_index, is_disp, names_register, names_memory, is_first_place, has_place, is_repeat, has_rep, number_in, w_needed, r_needed, x_needed, place_b, b_needed, rex_needed, low_byte_place, high_place, needs_rex}
+use Rattle.rz_isa.specs.Canonical.{repeat_prefix, prefixes_for, rex_for, place_bytes, reg_bits, rm_bytes, place_reaches}
 use Rattle.rz_isa.specs.Regular.{digit_small, rule_small}
 use Rattle.rz_isa.proofs.Built.{first_is}
 use Rattle.rz_isa.proofs.Again.{Had}
@@ -43,41 +43,43 @@ half_takes _ W64 h e = absurd (cc)
 most_when : (row : Row) → takes_66 row.size ≡ true → nat_le 1 (most_66 row) ≡ true
 most_when row t = grind (arith, nat_tests)
 
-f3_met : (r : F3Rule) (rep : ℕ) → is_met (f3_demand r) (if stands_f3 r rep then 1 else 0) ≡ true
-f3_met f3s.No rep = refl
-f3_met f3s.Allowed rep = refl
-f3_met f3s.Required rep = refl
+zero_repeat : (b : ℕ) → (b == 0) ≡ true → 0 ≡ b
+zero_repeat b e = grind (arith, nat_tests)
+
+other_repeat : (b : ℕ) → is_repeat b ≡ true → (b == 0) ≡ false → 0xf3 ≡ b
+other_repeat b h e = grind (arith, nat_tests)
+
+-- what holds where none stands and of F3 holds of the byte of a repeat prefix
+pub repeat_both : (P : ℕ → Type 0) (b : ℕ) → is_repeat b ≡ true → P 0 → P 0xf3 → P b
+repeat_both P b h none some = elim (cases_Bool (b == 0)) [ inl y ↦ subst P (zero_repeat b y) none | inr n ↦ subst P (other_repeat b h n) some ]
+
+pub repeat_prefix-is : (r : F3Rule) (n : ℕ) → has_rep r n ≡ true → is_repeat (repeat_prefix r n) ≡ true
+repeat_prefix-is f3s.Repeats n h = h
+repeat_prefix-is _ n h = refl
+
+f3_met : (r : F3Rule) (rep : ℕ) → is_met (f3_demand r) (if repeat_prefix r rep == 0 then 0 else 1) ≡ true
 f3_met f3s.Repeats rep = refl
+f3_met _ rep = refl
 
-prefixes_by : (row : Row) (a b : Bool) → (a ≡ true → nat_le 1 (most_66 row) ≡ true) → is_met (f3_demand row.f3) (if b then 1 else 0) ≡ true → prefixes_fit row (prefixes_for a b) ≡ true
-prefixes_by row true true m f = and_both _ _ (and_both _ _ (m refl) refl) f
-prefixes_by row true false m f = and_both _ _ (and_both _ _ (m refl) refl) f
-prefixes_by row false true m f = f
-prefixes_by row false false m f = f
+prefixes_by : (row : Row) (a : Bool) (b : ℕ) → is_repeat b ≡ true → (a ≡ true → nat_le 1 (most_66 row) ≡ true) → is_met (f3_demand row.f3) (if b == 0 then 0 else 1) ≡ true → prefixes_fit row (prefixes_for a b) ≡ true
+prefixes_by row true b h m f = repeat_both (λ k. is_met (f3_demand row.f3) (if k == 0 then 0 else 1) ≡ true → prefixes_fit row (prefixes_for true k) ≡ true) b h
+    (λ x. and_both _ _ (and_both _ _ (m refl) refl) x) (λ x. and_both _ _ (and_both _ _ (m refl) refl) x) f
+prefixes_by row false b h m f = repeat_both (λ k. is_met (f3_demand row.f3) (if k == 0 then 0 else 1) ≡ true → prefixes_fit row (prefixes_for false k) ≡ true) b h (λ x. x) (λ x. x) f
 
-pub prefixes_ok : (row : Row) (f : Fields) → Had row f → prefixes_fit row (prefixes_for (is_half f.w) (stands_f3 row.f3 f.rep)) ≡ true
-prefixes_ok row f h = prefixes_by row (is_half f.w) (stands_f3 row.f3 f.rep) (λ e. most_when row (half_takes row.size f.w h.w e)) (f3_met row.f3 f.rep)
+pub prefixes_ok : (row : Row) (f : Fields) → Had row f → prefixes_fit row (prefixes_for (is_half f.w) (repeat_prefix row.f3 f.rep)) ≡ true
+prefixes_ok row f h = prefixes_by row (is_half f.w) (repeat_prefix row.f3 f.rep) (repeat_prefix-is row.f3 f.rep h.rep) (λ e. most_when row (half_takes row.size f.w h.w e)) (f3_met row.f3 f.rep)
 
-pub times_66 : (a b : Bool) → times 0x66 (prefixes_for a b) ≡ (if a then 1 else 0)
-times_66 true true = refl
-times_66 true false = refl
-times_66 false true = refl
-times_66 false false = refl
+pub times_66 : (a : Bool) (b : ℕ) → is_repeat b ≡ true → times 0x66 (prefixes_for a b) ≡ (if a then 1 else 0)
+times_66 true b h = repeat_both (λ k. times 0x66 (prefixes_for true k) ≡ 1) b h refl refl
+times_66 false b h = repeat_both (λ k. times 0x66 (prefixes_for false k) ≡ 0) b h refl refl
 
-pub times_f3 : (a b : Bool) → times 0xf3 (prefixes_for a b) ≡ (if b then 1 else 0)
-times_f3 true true = refl
-times_f3 true false = refl
-times_f3 false true = refl
-times_f3 false false = refl
+pub repeat_again : (a : Bool) (b : ℕ) → is_repeat b ≡ true → repeat_in (prefixes_for a b) ≡ b
+repeat_again true b h = repeat_both (λ k. repeat_in (prefixes_for true k) ≡ k) b h refl refl
+repeat_again false b h = repeat_both (λ k. repeat_in (prefixes_for false k) ≡ k) b h refl refl
 
-pub rep_again : (r : F3Rule) (n : ℕ) → has_rep r n ≡ true → rep_of r (if stands_f3 r n then 1 else 0) ≡ n
-rep_again f3s.Repeats n h = repeats n h
-  where
-    repeats : (n : ℕ) → (n == 0 || n == 0xf3) ≡ true → (if (if is_rep n then 1 else 0) == 0 then 0 else 0xf3) ≡ n
-    repeats n h = grind (arith, nat_tests)
-rep_again f3s.No n h = (let e : n ≡ 0 = grind (arith, nat_tests) in sym e)
-rep_again f3s.Allowed n h = (let e : n ≡ 0 = grind (arith, nat_tests) in sym e)
-rep_again f3s.Required n h = (let e : n ≡ 0 = grind (arith, nat_tests) in sym e)
+pub rep_again : (r : F3Rule) (n : ℕ) → has_rep r n ≡ true → rep_of r (repeat_prefix r n) ≡ n
+rep_again f3s.Repeats n h = refl
+rep_again _ n h = zero_repeat n h
 
 -- ---- REX: its bits are those that are needed
 
@@ -225,11 +227,11 @@ width_again _ W16 h = absurd (cc)
 width_again _ W32 h = absurd (cc)
 width_again _ W64 h = absurd (cc)
 
-pub width_read : (row : Row) (f : Fields) → Had row f → width_of row.size (bit_w (rex_for row f)) (times 0x66 (prefixes_for (is_half f.w) (stands_f3 row.f3 f.rep))) ≡ f.w
+pub width_read : (row : Row) (f : Fields) → Had row f → width_of row.size (bit_w (rex_for row f)) (times 0x66 (prefixes_for (is_half f.w) (repeat_prefix row.f3 f.rep))) ≡ f.w
 width_read row f h =
     let b = bits row f h in
-    ap (λ k. width_of row.size k (times 0x66 (prefixes_for (is_half f.w) (stands_f3 row.f3 f.rep)))) b.w
-    ∙ (ap (width_of row.size (w_needed row.size f.w)) (times_66 (is_half f.w) (stands_f3 row.f3 f.rep)) ∙ width_again row.size f.w h.w)
+    ap (λ k. width_of row.size k (times 0x66 (prefixes_for (is_half f.w) (repeat_prefix row.f3 f.rep)))) b.w
+    ∙ (ap (width_of row.size (w_needed row.size f.w)) (times_66 (is_half f.w) (repeat_prefix row.f3 f.rep) (repeat_prefix-is row.f3 f.rep h.rep)) ∙ width_again row.size f.w h.w)
 
 -- ---- a register is read again
 

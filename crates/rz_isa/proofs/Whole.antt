@@ -18,8 +18,8 @@ use Rattle.rz_isa.specs.declared.spelled.Fields.{Fields}
 use Rattle.rz_isa.specs.Number.{are_bytes}
 use Rattle.rz_isa.specs.Spelling.{Parts, bytes_of, rex_bytes, escape, is_met, b_demand, w_demand, opcode_fits, rm_fits, rm_len, disp_len, second, width_at, imm_len, rex_fits, Fits, SpelledBy}
 use Rattle.rz_isa.specs.Fields.{reg_of, rm_place, rm_width, reg_number, imm_of, rep_of, fields}
-use Rattle.rz_isa.specs.Having.{code_of, in_opcode, has_cond, has_imm, has_place, is_half, opcode_of, is_extended, can_have}
-use Rattle.rz_isa.specs.Canonical.{offset, stands_f3, prefixes_for, rex_for, rm_bytes, imm_value, parts_for, place_reaches, imm_reaches, reaches}
+use Rattle.rz_isa.specs.Having.{code_of, in_opcode, has_cond, has_imm, has_place, is_half, is_repeat, opcode_of, is_extended, can_have}
+use Rattle.rz_isa.specs.Canonical.{offset, repeat_prefix, prefixes_for, rex_for, rm_bytes, imm_value, parts_for, place_reaches, imm_reaches, reaches}
 use Rattle.rz_isa.specs.Regular.{is_block, stands_alone, is_regular}
 use Rattle.rz_isa.specs.Spells.{CanHave}
 use Rattle.rz_isa.proofs.Again.{Had, had_of}
@@ -27,7 +27,7 @@ use Rattle.rz_isa.proofs.Inverse.{IsRegular, regular_of}
 use Rattle.rz_isa.proofs.Complete.{if_true, if_false, if_both, eight_aligned, disp_short, fields_had}
 use Rattle.rz_isa.proofs.Read.{little_bytes, little_length}
 use Rattle.rz_isa.proofs.Sound.{imm_again}
-use Rattle.rz_isa.proofs.Parts.{prefixes_ok, times_f3, rep_again, w_is, width_read, bits, reg_field_suits, place_suits, RmGiven, rm_read}
+use Rattle.rz_isa.proofs.Parts.{repeat_both, repeat_prefix-is, prefixes_ok, repeat_again, rep_again, w_is, width_read, bits, reg_field_suits, place_suits, RmGiven, rm_read}
 use Rattle.rz_isa.proofs.Tests.{and_parts, and_both, below_test, within_test}
 
 -- The canonical parts of fields are spelled by their row and read as the fields.
@@ -160,7 +160,7 @@ parts_read row f next regular can ln near =
     let ereg = ap (λ k. reg_of k p.rex (reg_number row.rm row.digit row.span p)) ew ∙ m.reg p.prefixes p.imm in
     let erm = ap (λ k. rm_place row.rm (rm_width row.op k) p.rex next p.rm) ew ∙ m.place in
     let eimm = ap (λ k. imm_of row.imm k next p.imm) ew ∙ imm_again row.imm f.w next f.imm ln h.imm r.1 in
-    let erep = ap (rep_of row.f3) (times_f3 (is_half f.w) (stands_f3 row.f3 f.rep)) ∙ rep_again row.f3 f.rep h.rep in
+    let erep = ap (rep_of row.f3) (repeat_again (is_half f.w) (repeat_prefix row.f3 f.rep) (repeat_prefix-is row.f3 f.rep h.rep)) ∙ rep_again row.f3 f.rep h.rep in
     record {
       fits = record {
         prefixes = prefixes_ok row f h;
@@ -181,17 +181,13 @@ bytes_append : (xs ys : List ℕ) → are_bytes xs ≡ true → are_bytes ys ≡
 bytes_append [] ys hx hy = hy
 bytes_append (x ∷ xs) ys hx hy = (let t = and_parts (nat_lt x 256) (are_bytes xs) hx in and_both _ _ t.0 (bytes_append xs ys t.1 hy))
 
-prefix_bytes : (a b : Bool) → are_bytes (prefixes_for a b) ≡ true
-prefix_bytes true true = refl
-prefix_bytes true false = refl
-prefix_bytes false true = refl
-prefix_bytes false false = refl
+prefix_bytes : (a : Bool) (b : ℕ) → is_repeat b ≡ true → are_bytes (prefixes_for a b) ≡ true
+prefix_bytes true b h = repeat_both (λ k. are_bytes (prefixes_for true k) ≡ true) b h refl refl
+prefix_bytes false b h = repeat_both (λ k. are_bytes (prefixes_for false k) ≡ true) b h refl refl
 
-prefix_short : (a b : Bool) → length (prefixes_for a b) ≤ 2
-prefix_short true true = omega arith
-prefix_short true false = omega arith
-prefix_short false true = omega arith
-prefix_short false false = omega arith
+prefix_short : (a : Bool) (b : ℕ) → is_repeat b ≡ true → length (prefixes_for a b) ≤ 2
+prefix_short true b h = repeat_both (λ k. length (prefixes_for true k) ≤ 2) b h (omega arith) (omega arith)
+prefix_short false b h = repeat_both (λ k. length (prefixes_for false k) ≤ 2) b h (omega arith) (omega arith)
 
 rex_are : (rex : Option ℕ) → rex_fits rex ≡ true → are_bytes (rex_bytes rex) ≡ true
 rex_are None h = refl
@@ -268,7 +264,8 @@ spelled_for row f next regular can ln near =
     let p = parts_for row f next in
     let li = little_length (imm_len row.imm f.w) (imm_value row.imm next f.imm) in
     let tail = tail_short row.rm row.digit row.imm f.w p.rm reg.alone r.fits.rm in
-    let a = prefix_short (is_half f.w) (stands_f3 row.f3 f.rep) in
+    let rep = repeat_prefix-is row.f3 f.rep h.rep in
+    let a = prefix_short (is_half f.w) (repeat_prefix row.f3 f.rep) rep in
     let c = rex_short p.rex in
     let d = escape_short row.map in
     let l = length_of row p in
@@ -276,7 +273,7 @@ spelled_for row f next regular can ln near =
     record {
       bytes = refl;
       fits = r.fits;
-      all = bytes_append p.prefixes _ (prefix_bytes (is_half f.w) (stands_f3 row.f3 f.rep))
+      all = bytes_append p.prefixes _ (prefix_bytes (is_half f.w) (repeat_prefix row.f3 f.rep) rep)
           (bytes_append (rex_bytes p.rex) _ (rex_are p.rex b.fits)
           (bytes_append (escape row.map) _ (escape_are row.map)
           (and_both _ _ (below_test p.opcode 256 o.byte) (bytes_append p.rm p.imm r.rm (little_bytes (imm_len row.imm f.w) (imm_value row.imm next f.imm))))));

@@ -111,9 +111,13 @@ imm_of (Some imms.J8) w next bs = displaced_by next bs
 imm_of (Some imms.J32) w next bs = displaced_by next bs
 imm_of _ w next bs = number bs
 
+-- the byte of the repeat prefix among the prefixes, 0 where none stands
+abbrev pub repeat_in : List ℕ → ℕ
+repeat_in ps = if times 0xf3 ps == 0 then 0 else 0xf3
+
 abbrev pub rep_of : F3Rule → ℕ → ℕ
-rep_of f3s.Repeats n = if n == 0 then 0 else 0xf3
-rep_of _ n = 0
+rep_of f3s.Repeats b = b
+rep_of _ b = 0
 
 abbrev pub fields : Row → Parts → ℕ → Fields
 fields row p next = let w = width_at row p in record {
@@ -122,7 +126,7 @@ fields row p next = let w = width_at row p in record {
   rm = rm_place row.rm (rm_width row.op w) p.rex next p.rm;
   cond = if row.span == 16 then p.opcode % 16 else 0;
   imm = imm_of row.imm w next p.imm;
-  rep = rep_of row.f3 (times 0xf3 p.prefixes);
+  rep = rep_of row.f3 (repeat_in p.prefixes);
 }
 
 -- ---- the instruction of an operation and the fields

@@ -147,8 +147,12 @@ has_imm (Some imms.Iv) w n = nat_lt n (size w)
 has_imm (Some imms.J8) w n = nat_lt n (2 ^ 64)
 has_imm (Some imms.J32) w n = nat_lt n (2 ^ 64)
 
+-- the byte of a repeat prefix, or 0
+abbrev pub is_repeat : ℕ → Bool
+is_repeat n = n == 0 || n == 0xf3
+
 abbrev pub has_rep : F3Rule → ℕ → Bool
-has_rep f3s.Repeats n = n == 0 || n == 0xf3
+has_rep f3s.Repeats n = is_repeat n
 has_rep _ n = n == 0
 
 -- ---- REX

@@ -10,4 +10,8 @@ pub mod Finding
 pub mod Canonical
 pub mod Regular
 pub mod Emitted
-pub mod Takes
+pub mod Decoded
+pub mod DecodedLaws
+pub mod Class
+pub mod Index
+pub mod Nodes

@@ -37,10 +37,6 @@ pub record IsUnknown (rows : List Row) (bytes : List ℕ) : Type 0 where
   pub no_front : (s more : List ℕ) (at : ℕ) (x : Insn) → s ++ more ≡ bytes → ¬ Spells rows s at x
   pub begins_none : ¬ Begins rows bytes
 
--- they are unknown whatever follows
-abbrev pub UnknownFront : List Row → List ℕ → Type 0
-UnknownFront rows bytes = (rest : List ℕ) → IsUnknown rows (bytes ++ rest)
-
 -- ---- the fields that a row can have
 
 -- the row can have the fields: some spelling by it has them at some address

@@ -419,13 +419,12 @@ fn least(row: &Row) -> Fields
     }
 }
 
-/// Fields that the row can have at some address and that build the instruction; `None` exactly
-/// where none do. The row is one of a table. It takes no memory.
+/// Fields that the row can have at some address and that build the instruction; for a regular
+/// row, as every row of a table is, `None` exactly where none do. It takes no memory.
 pub fn fields_of(row: &Row, insn: &Insn) -> Option<Fields>
-    requires { IsTrue (is_regular row.now) }
     ensures value { result ≡ found row.now insn.now }
-    ensures some { IfSome result (Builds row.now insn.now) }
-    ensures none { IfNone result (NoneBuilds row.now insn.now) }
+    ensures some { IsTrue (is_regular row.now) → IfSome result (Builds row.now insn.now) }
+    ensures none { IsTrue (is_regular row.now) → IfNone result (NoneBuilds row.now insn.now) }
 {
     find(row, insn)
 }

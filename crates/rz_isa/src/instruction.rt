@@ -3,7 +3,7 @@ use rz_num::Width;
 
 /// A general register: its number from 0 to 15, or the second byte of one of the first four.
 /// `High(0)` to `High(3)` are AH, CH, DH and BH (Intel SDM, volume 1, section 3.4.1).
-#[derive(Clone, Copy, PartialEq, Eq)]
+#[derive(Clone, Copy)]
 pub enum Reg {
     R(u8),
     High(u8),
@@ -12,7 +12,7 @@ pub enum Reg {
 /// A memory operand: the sum of the base, the index times the scale (1, 2, 4 or 8) and the
 /// displacement, modulo 2^64. Without an index the scale is 1
 /// (Intel SDM, volume 1, section 3.7.5).
-#[derive(Clone, Copy, PartialEq, Eq)]
+#[derive(Clone, Copy)]
 pub struct Mem {
     pub base: Option<u8>,
     pub index: Option<u8>,
@@ -22,7 +22,7 @@ pub struct Mem {
 
 /// What can be written: a register, memory by registers, or memory named relative to RIP, which
 /// `At` holds by its address.
-#[derive(Clone, Copy, PartialEq, Eq)]
+#[derive(Clone, Copy)]
 pub enum Place {
     Reg(Reg),
     Mem(Mem),
@@ -30,21 +30,21 @@ pub enum Place {
 }
 
 /// What can be read. An immediate is cut to the width of the instruction.
-#[derive(Clone, Copy, PartialEq, Eq)]
+#[derive(Clone, Copy)]
 pub enum Operand {
     Place(Place),
     Imm(u64),
 }
 
 /// A shift count: a number, not yet masked, or CL.
-#[derive(Clone, Copy, PartialEq, Eq)]
+#[derive(Clone, Copy)]
 pub enum Count {
     Imm(u8),
     Cl,
 }
 
 /// Which bit a bit test names: by a register or a number, not yet cut to the width.
-#[derive(Clone, Copy, PartialEq, Eq)]
+#[derive(Clone, Copy)]
 pub enum BitIndex {
     Reg(u8),
     Imm(u8),

@@ -1,5 +1,6 @@
+ghost use Rattle.std.specs.Prelude.{IsTrue};
+ghost use Rattle.rz_isa.specs.Emitted.{Emits, EmitsLookup, has_lookup};
 ghost use Rattle.rz_isa.specs.Table.{OneRow, Lengths, OneCanonicalRow, CanonicalSpells};
-ghost use Rattle.rz_isa.specs.Takes.{UntakenUnknown};
 
 use crate::table::InsnTable;
 
@@ -24,8 +25,9 @@ pub fn canonical_spells<T: InsnTable>()
     ensures { CanonicalSpells T.rows }
 {}
 
-/// Bytes whose front no row takes are unknown, whatever follows: no front of them is a spelling,
-/// and they begin none. The front is the prefixes, REX, the opcode and the ModRM byte.
-pub fn untaken_unknown<T: InsnTable>()
-    ensures { UntakenUnknown T.rows }
+/// The instructions that fragments and stubs are made of have canonical spellings; a table with
+/// transfers that are looked up has those of the lookup routine, too.
+pub fn emits<T: InsnTable>()
+    ensures emits { Emits T.rows }
+    ensures lookup { IsTrue (has_lookup T.rows) → EmitsLookup T.rows }
 {}

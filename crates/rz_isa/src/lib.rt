@@ -1,6 +1,8 @@
 //! Instructions, the rows that spell them, and the trait of instruction tables.
 #![tactic(auto)]
 
+pub mod classes;
+pub mod decoding;
 mod find;
 mod having;
 pub mod instruction;
@@ -10,6 +12,8 @@ pub mod rows;
 pub mod spelled;
 pub mod table;
 
+pub use classes::{Class, class_of};
+pub use decoding::Decoded;
 pub use find::fields_of;
 pub use instruction::{BitIndex, Count, Insn, Kind, Mem, Operand, Place, Reg};
 pub use kinds::{kind, rip_target, target};

@@ -2,7 +2,7 @@ use rz_flags::{ArithOp, BitOp, FlagOp, ScanOp, ShiftOp, UnaryOp, WideOp};
 
 /// The opcode map: opcodes of one byte, or of the byte 0F and one byte
 /// (Intel SDM, volume 2, section 2.1.2).
-#[derive(Clone, Copy, PartialEq, Eq)]
+#[derive(Clone, Copy)]
 pub enum OpMap {
     One,
     Two,
@@ -10,7 +10,7 @@ pub enum OpMap {
 
 /// Which ModRM bytes a row takes: any, those that name memory, those that name a register, or
 /// one whole byte.
-#[derive(Clone, Copy, PartialEq, Eq)]
+#[derive(Clone, Copy)]
 pub enum RmRule {
     Any,
     MemoryOnly,
@@ -19,7 +19,7 @@ pub enum RmRule {
 }
 
 /// Whether the prefix F3 may stand, must stand, or repeats the instruction.
-#[derive(Clone, Copy, PartialEq, Eq)]
+#[derive(Clone, Copy)]
 pub enum F3Rule {
     No,
     Allowed,
@@ -30,7 +30,7 @@ pub enum F3Rule {
 /// The size class, which gives the width. `B` is 8 bits; `V` 64 with REX.W, else 16 with the
 /// prefix 66, else 32; `D` 16 with 66, else 32; `Y` 64 with REX.W, else 32; `Q` 64; `WQ` 64
 /// with REX.W required; `N` has no width.
-#[derive(Clone, Copy, PartialEq, Eq)]
+#[derive(Clone, Copy)]
 pub enum Size {
     B,
     V,
@@ -44,7 +44,7 @@ pub enum Size {
 /// The immediate: one byte, one byte sign-extended, two bytes, the width but at most four
 /// bytes, the whole width, or a displacement of one or four bytes from the next address
 /// (Intel SDM, volume 2, section 3.1.1.3).
-#[derive(Clone, Copy, PartialEq, Eq)]
+#[derive(Clone, Copy)]
 pub enum ImmKind {
     Ib,
     Ibs,
@@ -58,7 +58,7 @@ pub enum ImmKind {
 /// Where an operand comes from: the ModRM operand with the row's width, or with 8, 16 or 32
 /// bits, memory alone, a register alone; the register of the reg field; the register in the
 /// opcode; the accumulator; the count 1; the count in CL; the immediate.
-#[derive(Clone, Copy, PartialEq, Eq)]
+#[derive(Clone, Copy)]
 pub enum Letter {
     E,
     E8,
@@ -75,7 +75,7 @@ pub enum Letter {
 }
 
 /// Whether a jump's displacement has one byte. Every other row has the form `Near`.
-#[derive(Clone, Copy, PartialEq, Eq)]
+#[derive(Clone, Copy)]
 pub enum Form {
     Near,
     Short,

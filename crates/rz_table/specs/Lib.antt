@@ -1,2 +1,6 @@
+pub mod Index
 pub mod Worked
-pub mod Short
+pub mod Decoded
+pub mod Prefixes
+pub mod Spellings
+pub mod Laws

@@ -1,11 +1,15 @@
 ghost use Rattle.std.specs.Prelude.{◌≡◌, length, refl};
-ghost use Rattle.rz_isa.specs.Emitted.{Emits};
 ghost use Rattle.rz_isa.specs.Table.{OneRow, Lengths, OneCanonicalRow, CanonicalSpells};
 ghost use Rattle.rz_table.specs.declared.early_rows.TheConstants.{EARLY};
+ghost use Rattle.rz_table.specs.Laws.EarlyEmits.{emits, emits_lookup};
 
+use crate::early_index::{
+    EARLY_CLASS_ROWS, EARLY_CLASS_STARTS, EARLY_OPCODE_ROWS, EARLY_OPCODE_STARTS,
+};
 use crate::early_rows::EARLY;
+use crate::index::{cell, class_place, opcode_place};
 use crate::profile::pick;
-use rz_isa::{InsnTable, Row};
+use rz_isa::{Class, InsnTable, OpMap, Row};
 
 /// A part of profile 1 that has direct transfers alone. It has 33 rows.
 #[derive(Clone, Copy)]
@@ -16,15 +20,13 @@ impl InsnTable for Early {
 
     /// How many rows there are. The clauses are the laws of the table: no bytes are spelled by
     /// two rows, every spelling has 1 to 15 bytes, an instruction has one canonical row for each
-    /// form that it has, a canonical spelling names its instruction, and the instructions that a
-    /// written file is made of have canonical spellings.
+    /// form that it has, and a canonical spelling names its instruction.
     fn count() -> usize
         ensures length { result ≡ length EARLY }
         ensures one_row { OneRow EARLY }
         ensures lengths { Lengths EARLY }
         ensures one_canonical_row { OneCanonicalRow EARLY }
         ensures canonical_spells { CanonicalSpells EARLY }
-        ensures emits { Emits EARLY }
     {
         EARLY.len()
     }
@@ -33,9 +35,25 @@ impl InsnTable for Early {
         pick(&EARLY, n)
     }
 
+    fn rows_at(map: OpMap, opcode: u8) -> &'static [u8] {
+        cell(
+            &EARLY_OPCODE_STARTS,
+            &EARLY_OPCODE_ROWS,
+            opcode_place(map, opcode),
+        )
+    }
+
+    fn rows_of(class: Class) -> &'static [u8] {
+        cell(&EARLY_CLASS_STARTS, &EARLY_CLASS_ROWS, class_place(class))
+    }
+
     ghost plain = { refl };
 
     ghost exclude = { refl };
 
     ghost regular = { refl };
+
+    ghost emits = { emits };
+
+    ghost emits_lookup = { emits_lookup };
 }

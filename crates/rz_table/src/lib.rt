@@ -51,14 +51,15 @@ macro_rules! row {
 }
 
 mod early;
+mod early_index;
 mod early_rows;
+mod index;
 mod profile;
+mod profile_index;
 mod profile_rows;
-mod unknown;
 
 pub use early::Early;
 pub use profile::Profile1;
-pub use unknown::unknown_bytes;
 
 #[cfg(test)]
 mod tests;

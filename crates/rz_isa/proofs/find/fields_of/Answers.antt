@@ -18,7 +18,7 @@ when_none row x None reg e = none_builds row x reg (sym e)
 when_none row x (Some g) reg e = tt
 
 pub returns-clause-some : goal.returns-clause-some
-returns-clause-some c = when_some c.args.row.now c.args.insn.now c.find.result c.requires c.find.ensures
+returns-clause-some c = λ regular. when_some c.args.row.now c.args.insn.now c.find.result regular c.find.ensures
 
 pub returns-clause-none : goal.returns-clause-none
-returns-clause-none c = when_none c.args.row.now c.args.insn.now c.find.result c.requires c.find.ensures
+returns-clause-none c = λ regular. when_none c.args.row.now c.args.insn.now c.find.result regular c.find.ensures

@@ -1,0 +1,2 @@
+pub mod ProfileEmits
+pub mod EarlyEmits

@@ -1,0 +1,38 @@
+use Rattle.std.specs.Prelude.{◌∷◌, [], None, refl, IsTrue}
+use Rattle.rz_isa.specs.declared.rows.OpMap.TheVariants as maps
+use Rattle.rz_isa.specs.declared.rows.Size.TheVariants as sizes
+use Rattle.rz_isa.specs.declared.rows.Form.TheVariants as forms
+use Rattle.rz_isa.specs.declared.rows.Op.TheVariants as ops
+use Rattle.rz_isa.specs.declared.instruction.Insn.TheVariants as insns
+use Rattle.rz_isa.specs.Emitted.{Emits, EmitsLookup, has_lookup}
+use Rattle.rz_isa.proofs.Served.{emits_load, emits_store, emits_store_imm, emits_load_32, emits_mov, emits_lea, emits_push, emits_push_byte, emits_push_imm, emits_pop, emits_jcc, emits_jcc_short, emits_jrcxz, emits_jmp, emits_jmp_short, emits_bare, lone_row}
+use Rattle.rz_isa.proofs.Tests.{never}
+use Rattle.rz_table.specs.declared.early_rows.TheConstants.{EARLY}
+
+-- The first part of the table emits what it must; no transfer of it is looked up.
+
+pub emits : Emits EARLY
+emits = record {
+  load = λ r at p. emits_load EARLY 5 3 r at p (λ m. refl) (λ a. refl) (λ q. refl);
+  store = λ r at m. emits_store EARLY 3 r at m refl;
+  store_imm = λ k at m. emits_store_imm EARLY 9 k at m refl;
+  load_32 = λ r at m. emits_load_32 EARLY 5 r at m refl;
+  mov = λ r k at. emits_mov EARLY 7 r k at refl;
+  lea = λ r at m. emits_lea EARLY 11 r at m refl;
+  push = λ r at. emits_push EARLY 17 r at refl;
+  push_byte = λ k at. emits_push_byte EARLY 19 k at refl;
+  push_imm = λ k at. emits_push_imm EARLY 20 k at (19 ∷ []) (refl, refl);
+  pop = λ r at. emits_pop EARLY 21 r at refl;
+  jcc = λ c t at. emits_jcc EARLY 25 c t at refl;
+  jcc_short = λ c t at. emits_jcc_short EARLY 24 c t at refl;
+  jrcxz = λ t at. emits_jrcxz EARLY 26 t at refl;
+  jmp = λ t at. emits_jmp EARLY 28 t at refl;
+  jmp_short = λ t at. emits_jmp_short EARLY 27 t at refl;
+  syscall = λ at. emits_bare EARLY insns.Syscall 29 at 2 (lone_row maps.Two 0x05 sizes.N None forms.Near ops.Syscall) refl refl refl refl refl (λ next. refl);
+  ud2 = λ at. emits_bare EARLY insns.Ud2 30 at 2 (lone_row maps.Two 0x0b sizes.N None forms.Near ops.Ud2) refl refl refl refl refl (λ next. refl);
+  hlt = λ at. emits_bare EARLY insns.Hlt 31 at 1 (lone_row maps.One 0xf4 sizes.N None forms.Near ops.Hlt) refl refl refl refl refl (λ next. refl);
+  int3 = λ at. emits_bare EARLY insns.Int3 32 at 1 (lone_row maps.One 0xcc sizes.N None forms.Near ops.Int3) refl refl refl refl refl (λ next. refl);
+}
+
+pub emits_lookup : IsTrue (has_lookup EARLY) → EmitsLookup EARLY
+emits_lookup h = absurd (never (has_lookup EARLY) h refl)
