@@ -10,7 +10,7 @@ mod want;
 mod width;
 
 pub use address_list::{Pairs, Words};
-pub use byte_list::Bytes;
+pub use byte_list::{Bytes, are_bytes};
 pub use fields::{get_u16, get_u32, get_u64, put_u16, put_u32, put_u64};
 pub use page::page_up;
 pub use text_list::Text;
