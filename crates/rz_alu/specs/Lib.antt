@@ -1,3 +1,9 @@
-pub mod Sums
-pub mod Left
+pub mod Answer
 pub mod Arith
+pub mod Bits
+pub mod Multiply
+pub mod Scans
+pub mod Shifts
+pub mod Status
+pub mod Sums
+pub mod Unary

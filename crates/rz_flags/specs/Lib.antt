@@ -1,3 +1,4 @@
 pub mod Cond
-pub mod Word
 pub mod CondLaws
+pub mod Laws
+pub mod Word

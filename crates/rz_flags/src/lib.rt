@@ -1,9 +1,9 @@
 //! The flags, the conditions on them and the operations that instructions name.
 #![tactic(auto)]
 
-ghost use Rattle.std.specs.Prelude.{◌≡◌, ◌<◌};
+ghost use Rattle.std.specs.Prelude.{◌≡◌, ◌<◌, Some};
 ghost use Rattle.rz_flags.specs.Cond.{cond_of as cond_of_number, number_of, holds as holds_for};
-ghost use Rattle.rz_flags.specs.Word.{flags_word, bit_of};
+ghost use Rattle.rz_flags.specs.Word.{flags_word, flags_in, bit_of, is_set, sets_other};
 
 /// The status flags CF, PF, AF, ZF, SF and OF and the control flag DF of RFLAGS
 /// (Intel SDM, volume 1, section 3.4.3).
@@ -191,7 +191,8 @@ pub fn holds(cond: Cond, flags: Flags) -> bool
 /// The flags as a word: each at its place (CF 0, PF 2, AF 4, ZF 6, SF 7, DF 10, OF 11), and 0x202, the two bits that
 /// are always set (Intel SDM, volume 1, section 3.4.3).
 pub fn to_word(flags: Flags) -> u64
-    ensures { result ≡ flags_word flags }
+    ensures value { result ≡ flags_word flags }
+    ensures again { flags_in result ≡ Some flags }
 {
     0x202
         + bit(flags.cf, 1)
@@ -208,4 +209,31 @@ fn bit(on: bool, worth: u64) -> u64
     ensures { result ≡ bit_of on worth }
 {
     if on { worth } else { 0 }
+}
+
+/// The flags of a word, each from its place (CF 0, PF 2, AF 4, ZF 6, SF 7, DF 10, OF 11). None exactly where TF, NT, AC or
+/// ID (8, 14, 18, 21) is set; other bits are ignored (Intel SDM, volume 1, section 3.4.3).
+pub fn from_word(word: u64) -> Option<Flags>
+    ensures { result ≡ flags_in word }
+{
+    if is_set(word, 8) || is_set(word, 14) || is_set(word, 18) || is_set(word, 21) {
+        return None;
+    }
+    Some(Flags {
+        cf: is_set(word, 0),
+        pf: is_set(word, 2),
+        af: is_set(word, 4),
+        zf: is_set(word, 6),
+        sf: is_set(word, 7),
+        df: is_set(word, 10),
+        of: is_set(word, 11),
+    })
+}
+
+// Whether the bit at a place is set.
+fn is_set(word: u64, place: u32) -> bool
+    requires { place < 64 }
+    ensures { result ≡ is_set word place }
+{
+    (word >> place) % 2 == 1
 }

@@ -3,6 +3,13 @@ use Rattle.std.specs.Prelude.{ℕ, ◌+◌, ◌-◌, ◌*◌, ◌^◌, ◌%◌, 
 use Rattle.rz_num.specs.declared.width.Width.{Width}
 use Rattle.rz_num.specs.declared.width.Width.TheVariants.{W8, W16, W32, W64}
 
+-- how many bits the width has
+abbrev pub bits : Width → ℕ
+bits W8 = 8
+bits W16 = 16
+bits W32 = 32
+bits W64 = 64
+
 -- one above the greatest number of the width
 abbrev pub size : Width → ℕ
 size W8 = 2 ^ 8

@@ -1,6 +1,7 @@
 // Lists of bytes.
 
-ghost use Rattle.std.specs.Prelude.{◌≡◌, ℕ, List, [], ◌∷◌, ◌++◌, ◌+◌, ◌-◌, ◌<◌, ◌≤◌, OnOk, OnErr, IfOk, length, take, drop, replicate, slice_index};
+ghost use Rattle.std.specs.Prelude.{◌≡◌, ℕ, List, [], ◌∷◌, ◌++◌, ◌+◌, ◌-◌, ◌<◌, ◌≤◌, OnOk, OnErr, IfOk, IsTrue, length, take, drop, replicate, slice_index};
+ghost use Rattle.rz_num.specs.Bytes.{are_bytes};
 
 use crate::OutOfMemory;
 use std::alloc::Global;
@@ -93,14 +94,15 @@ impl Bytes {
         ensures bytes { (i : ℕ) → slice_index self.now i < 256 }
     {
         let items = self.items.as_slice();
-        each_below_256(items);
+        are_bytes(items);
         items
     }
 }
 
-// Each item of a slice of bytes is below 256.
-fn each_below_256(bytes: &[u8])
-    ensures { (i : ℕ) → slice_index bytes.now i < 256 }
+/// Tells a proof that each item of a slice of bytes is below 256. It does nothing when it runs.
+pub fn are_bytes(bytes: &[u8])
+    ensures test { IsTrue (are_bytes bytes.now) }
+    ensures each { (i : ℕ) → slice_index bytes.now i < 256 }
 {
     let _ = bytes;
 }

@@ -1,6 +1,6 @@
 // Operand widths.
 
-ghost use Rattle.std.specs.Prelude.{◌≡◌, ◌<◌, ◌*◌, ◌^◌};
+ghost use Rattle.std.specs.Prelude.{◌≡◌, ◌<◌, ◌+◌, ◌*◌, ◌^◌};
 ghost use Rattle.rz_num.specs.Width.{extend, low_bits, sign_extended};
 
 /// The width of an operand, in bits (Intel SDM volume 1, 4.1).
@@ -10,6 +10,36 @@ pub enum Width {
     W16,
     W32,
     W64,
+}
+
+impl Width {
+    ghost use Rattle.rz_num.specs.Width.{bits, size, half};
+
+    /// The number of bits.
+    pub fn bits(self) -> u32
+        ensures { result ≡ bits self }
+    {
+        match self {
+            Width::W8 => 8,
+            Width::W16 => 16,
+            Width::W32 => 32,
+            Width::W64 => 64,
+        }
+    }
+
+    /// The greatest number of the width: all its bits are ones.
+    pub fn greatest(self) -> u64
+        ensures { result + 1 ≡ size self }
+    {
+        u64::MAX >> (64 - self.bits())
+    }
+
+    /// The worth of the sign bit, which is the top bit.
+    pub fn sign_bit(self) -> u64
+        ensures { result ≡ half self }
+    {
+        1 << (self.bits() - 1)
+    }
 }
 
 /// The low bits of a number, as many as the width has; the bits above are 0.
