@@ -8,7 +8,7 @@ pub mod RewriteLaws
 pub mod Trimmed
 pub mod FormLaws
 pub mod ReadLaws
+pub mod CourseLaws
 pub mod CauseLaws
-pub mod CheckLaws
 pub mod ExactLaws
 pub mod MadeLaws

@@ -7,13 +7,17 @@ use Rattle.rz_core.proofs.MadeLaws.{unwritten_of, nothing_stands, kept_is, trace
 use Rattle.rz_core.proofs.making.record_run.Goals as goal
 
 pub returns-in-Ok-clause-kept : goal.returns-in-Ok-clause-kept
-returns-in-Ok-clause-kept c = kept_is c.args.elf.now c.args.limit c.empty-input.result c.trace.new.rec c.new-kept.result c.requires.thin c.empty-input.ensures c.new-kept.ensures c.in-Ok.ensures.added
+returns-in-Ok-clause-kept c =
+    kept_is c.args.elf.now c.args.limit c.args.input.now c.trace.new.rec c.new-kept.result c.requires.thin c.new-kept.ensures c.in-Ok.ensures.added
 
 pub returns-in-Ok-clause-rewritable : goal.returns-in-Ok-clause-rewritable
-returns-in-Ok-clause-rewritable c = c.in-Ok.ensures.rewritable c.requires.some (unwritten_of c.args.elf.now c.requires.thin) (nothing_stands _ c.new-kept.result c.new-kept.ensures)
+returns-in-Ok-clause-rewritable c =
+    c.in-Ok.ensures.rewritable c.requires.some (unwritten_of c.args.elf.now c.requires.thin) (nothing_stands _ c.new-kept.result c.new-kept.ensures)
 
 pub returns-in-Ok-clause-stays : goal.returns-in-Ok-clause-stays
-returns-in-Ok-clause-stays c = subst (StaysInCode decode_first c.args.limit) (traced_is c.args.elf.now c.empty-input.result c.requires.thin c.empty-input.ensures) c.in-Ok.ensures.stays
+returns-in-Ok-clause-stays c =
+    subst (StaysInCode decode_first c.args.limit) (traced_is c.args.elf.now c.args.input.now c.requires.thin) c.in-Ok.ensures.stays
 
 pub returns-in-Ok-clause-uncut : goal.returns-in-Ok-clause-uncut
-returns-in-Ok-clause-uncut c = subst (λ (s : Machine). IsUncut decode_first c.trace.new.rec.edges s c.args.limit) (traced_is c.args.elf.now c.empty-input.result c.requires.thin c.empty-input.ensures) c.in-Ok.ensures.uncut
+returns-in-Ok-clause-uncut c =
+    subst (λ (s : Machine). IsUncut decode_first c.trace.new.rec.edges s c.args.limit) (traced_is c.args.elf.now c.args.input.now c.requires.thin) c.in-Ok.ensures.uncut
