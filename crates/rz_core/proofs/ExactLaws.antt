@@ -1,10 +1,14 @@
 -- From the causes of all answers to the one that comes.
-use Rattle.std.proofs.Common.{◌≡◌, ◌≢◌, ℕ, inl, inr, ⊎_elim, List, [], refl, sym, ap, ap₂, ◌∙◌, subst}
-use Rattle.std.specs.Prelude.{Option, Some, None}
+use Rattle.std.proofs.Common.{◌≡◌, ℕ, suc, inl, inr, ⊎_elim, List, [], ◌∷◌, refl, sym, ap, ap₂, ◌∙◌, subst}
+use Rattle.std.specs.Prelude.{◌⊎◌, IsTrue, Option, Some, None, Result, Ok, Err}
+use Rattle.rz_outside.specs.StoreAnswers.{Files}
+use Rattle.rz_outside.specs.StoreCalls.{StoreCalls, Held}
+use Rattle.rz_outside.specs.SinkCalls.{SinkCalls}
 use Rattle.rz_elf.specs.declared.fault.ElfFault.{ElfFault}
 use Rattle.rz_elf.specs.Elf.{fault_of}
+use Rattle.rz_sys.specs.declared.input.Input.{Input}
 use Rattle.rz_machine.specs.First.{decode_first}
-use Rattle.rz_machine.specs.LeftCode.{left_at, LeavesCode, StaysInCode}
+use Rattle.rz_machine.specs.LeftCode.{left_at}
 use Rattle.rz_machine.specs.State.{after}
 use Rattle.rz_rewrite.specs.Thin.{IsThin}
 use Rattle.rz_rewrite.specs.ThinFault.{IsThinFault}
@@ -12,31 +16,33 @@ use Rattle.rz_rewrite.proofs.ThinLoads.{thin_fault}
 use Rattle.rz_core.specs.declared.status.Status.{Status}
 use Rattle.rz_core.specs.declared.status.Status.TheVariants as status
 use Rattle.rz_core.specs.declared.status.Target.TheVariants as target
-use Rattle.rz_core.specs.Words.{Debloat, Debloating}
-use Rattle.rz_core.specs.Debloated.{traced}
-use Rattle.rz_core.specs.Causes.{StoreCalls, SinkCalls, HoldsThin, AreRead, ReadCause, IsReadName, CauseOf}
-use Rattle.rz_core.specs.Headline.{Headline}
-use Rattle.rz_core.specs.Exact.{IsQuiet, Gives, AnswersExactly}
+use Rattle.rz_core.specs.Words.{Debloat, Check, Form, Debloating, Checking}
+use Rattle.rz_core.specs.Inputs.{input_of, HoldInputs}
+use Rattle.rz_core.specs.Reading.{Demand, Thin, Accepted, InputNumber, Wanted, wanted_by, Meets, Refuses, ReadCause, ReadRefusal, Course}
+use Rattle.rz_core.specs.Debloated.{traced, AllStay, LeavesFirst}
+use Rattle.rz_core.specs.Causes.{AreRead, LastAnswer, CauseOf}
+use Rattle.rz_core.specs.Exact.{IsQuiet, Gives, holds, IsAnswered, IsInOrder, EndsExactly, LastExact, IsExactOf}
+use Rattle.rz_core.specs.Headline.{HeadlineOf}
+use Rattle.rz_core.proofs.CourseLaws.{course_ok}
 
 -- a name holds one content
-pub one_content : (o : Option (List ℕ)) (x y : List ℕ) → o ≡ Some x → o ≡ Some y → x ≡ y
+one_content : (o : Option (List ℕ)) (x y : List ℕ) → o ≡ Some x → o ≡ Some y → x ≡ y
 one_content o x y e f = let g : Some x ≡ Some y = sym e ∙ f in cc
 
-thin_again : (d : Debloat) (s : StoreCalls) (x y : List ℕ) → s.old d.exe ≡ Some x → HoldsThin s.old d.exe y → IsThin x
-thin_again d s x y e h = subst IsThin (one_content (s.old d.exe) y x h.there e) h.thin
-
-pub is_there : (o : Option (List ℕ)) (x : List ℕ) → o ≡ Some x → o ≡ None → ⊥
+is_there : (o : Option (List ℕ)) (x : List ℕ) → o ≡ Some x → o ≡ None → ⊥
 is_there o x e f = let g : Some x ≡ None = sym e ∙ f in cc
 
--- where nothing fails, a read is refused for a missing name alone
-pub missing : (s : StoreCalls) (k : SinkCalls) (file : List ℕ) → IsQuiet s k → ReadCause s file → s.old file ≡ None
-missing s k file quiet cause = ⊎_elim (λ r. absurd (quiet.store r.0)) (λ m. m.1) cause
+not_both : (o : Option ℕ) (a : ℕ) → o ≡ Some a → o ≡ None → ⊥
+not_both o a e f = let g : Some a ≡ None = sym e ∙ f in cc
 
--- a read fault where the executable and the input are there
-no_read_fault : (d : Debloat) (s : StoreCalls) (k : SinkCalls) (x i file : List ℕ) → IsQuiet s k → s.old d.exe ≡ Some x → s.old d.input ≡ Some i → IsReadName d s file → ReadCause s file → ⊥
-no_read_fault d s k x i file quiet exe input name cause =
-    let none = missing s k file quiet cause in
-    ⊎_elim (λ e. is_there (s.old d.exe) x exe (ap s.old (sym e) ∙ none)) (λ e. is_there (s.old d.input) i input (ap s.old (sym e.0) ∙ none)) name
+one_address : (o : Option ℕ) (a b : ℕ) → o ≡ Some a → o ≡ Some b → a ≡ b
+one_address o a b e f = let g : Some a ≡ Some b = sym e ∙ f in cc
+
+no_fault : (o : Option ElfFault) (f : ElfFault) → o ≡ Some f → o ≡ None → ⊥
+no_fault o f e n = let h : Some f ≡ None = sym e ∙ n in cc
+
+same_fault : (o : Option ElfFault) (f g : ElfFault) → o ≡ Some f → o ≡ Some g → f ≡ g
+same_fault o f g e h = let k : Some f ≡ Some g = sym e ∙ h in cc
 
 -- a thin file has no fault
 not_thin : (x : List ℕ) (f : ElfFault) → IsThinFault x f → IsThin x → ⊥
@@ -57,96 +63,185 @@ one_fault x f g a b =
     some_is : (o : Option ElfFault) (f g : ElfFault) → o ≡ Some f → o ≡ Some g → f ≡ g
     some_is o f g e h = let k : Some f ≡ Some g = sym e ∙ h in cc
 
--- another content's fault
-fault_again : (d : Debloat) (s : StoreCalls) (x y : List ℕ) (f : ElfFault) → s.old d.exe ≡ Some x → s.old d.exe ≡ Some y → IsThinFault y f → IsThinFault x f
-fault_again d s x y f e h why = subst (λ z. IsThinFault z f) (one_content (s.old d.exe) y x h e) why
+-- an input file holds one input, or breaks the grammar at one line
+input_or : Input → Result Input ℕ → Input
+input_or other (Ok input) = input
+input_or other (Err line) = other
 
-refused : (d : Debloat) (s : StoreCalls) (k : SinkCalls) (x : List ℕ) (f : ElfFault) → IsQuiet s k → s.old d.exe ≡ Some x → IsThinFault x f → (answer : Status) → CauseOf d s k answer → Gives (status.Refused d.exe f) answer
-refused d s k x f q e why status.Ok h = absurd (not_thin x f why (thin_again d s x (h q.told).x e (h q.told).new.0.exe))
-refused d s k x f q e why (status.WriteFault target.Text) h = absurd (q.sink h)
-refused d s k x f q e why (status.Refused file g) h =
-    let r = h.1 q.told in inl (ap₂ (λ n w. status.Refused n w) h.0 (one_fault x g f (fault_again d s x r.0 g e r.1 r.2) why))
-refused d s k x f q e why (status.BadInput input line) h = absurd (not_thin x f why (thin_again d s x (h.2 q.told).0.0 e (h.2 q.told).0.1))
-refused d s k x f q e why (status.LeftCode input address) h = absurd (not_thin x f why (thin_again d s x (h.1 q.told).0 e (h.1 q.told).1.exe))
-refused d s k x f q e why (status.ReadFault file) h =
-    absurd (⊎_elim (λ n. is_there (s.old d.exe) x e (ap s.old (sym n) ∙ missing s k file q h.1)) (λ n. not_thin x f why (thin_again d s x (n.1 q.told).0 e (n.1 q.told).1)) h.0)
-refused d s k x f q e why (status.WriteFault target.File) h = absurd (q.store h.0)
-refused d s k x f q e why status.OutOfMemory h = inr refl
-refused d s k x f q e why status.Usage h = absurd h
+line_or : ℕ → Result Input ℕ → ℕ
+line_or other (Ok input) = other
+line_or other (Err line) = line
 
-bad_input : (d : Debloat) (s : StoreCalls) (k : SinkCalls) (x i : List ℕ) → IsQuiet s k → HoldsThin s.old d.exe x → s.old d.input ≡ Some i → i ≢ [] → (answer : Status) → CauseOf d s k answer → Gives (status.BadInput 1 1) answer
-bad_input d s k x i q exe input some status.Ok h = absurd (some (one_content (s.old d.input) i [] input (h q.told).new.0.input))
-bad_input d s k x i q exe input some (status.WriteFault target.Text) h = absurd (q.sink h)
-bad_input d s k x i q exe input some (status.Refused file why) h =
-    let r = h.1 q.told in absurd (not_thin r.0 why r.2 (thin_again d s r.0 x r.1 exe))
-bad_input d s k x i q exe input some (status.BadInput n line) h = inl (ap₂ (λ a b. status.BadInput a b) h.0 h.1)
-bad_input d s k x i q exe input some (status.LeftCode n address) h = absurd (some (one_content (s.old d.input) i [] input (h.1 q.told).1.input))
-bad_input d s k x i q exe input some (status.ReadFault file) h = absurd (no_read_fault d s k x i file q exe.there input h.0 h.1)
-bad_input d s k x i q exe input some (status.WriteFault target.File) h = absurd (q.store h.0)
-bad_input d s k x i q exe input some status.OutOfMemory h = inr refl
-bad_input d s k x i q exe input some status.Usage h = absurd h
+HasInput : Result Input ℕ → Type 0
+HasInput (Ok input) = Unit {0}
+HasInput (Err line) = ⊥
 
--- two files that are read are one
-same_read : (d : Debloat) (s : StoreCalls) (x y : List ℕ) → AreRead d s.old x → AreRead d s.old y → x ≡ y
-same_read d s x y a b = one_content (s.old d.exe) x y a.exe.there b.exe.there
+one_input : (r : Result Input ℕ) (i j : Input) → r ≡ Ok i → r ≡ Ok j → i ≡ j
+unfolding input_or
+one_input r i j e f = ap (input_or i) (sym e ∙ f)
 
-same_address : (o : Option ℕ) (a b : ℕ) → o ≡ Some a → o ≡ Some b → a ≡ b
-same_address o a b e f = let g : Some a ≡ Some b = sym e ∙ f in cc
+one_line : (r : Result Input ℕ) (m n : ℕ) → r ≡ Err m → r ≡ Err n → m ≡ n
+unfolding line_or
+one_line r m n e f = ap (line_or m) (sym e ∙ f)
 
-not_both : (o : Option ℕ) (a : ℕ) → o ≡ Some a → o ≡ None → ⊥
-not_both o a e f = let g : Some a ≡ None = sym e ∙ f in cc
+no_line : (r : Result Input ℕ) (i : Input) (line : ℕ) → r ≡ Ok i → r ≡ Err line → ⊥
+unfolding HasInput
+no_line r i line e f = let P : Result Input ℕ → Type 0 = λ v. HasInput v in subst P (sym e ∙ f) tt
 
-left_code : (d : Debloat) (s : StoreCalls) (k : SinkCalls) (x : List ℕ) (a : ℕ) → IsQuiet s k → AreRead d s.old x → LeavesCode decode_first d.limit (traced x) a → (answer : Status) → CauseOf d s k answer → Gives (status.LeftCode 1 a) answer
-left_code d s k x a q read left status.Ok h =
-    let done = h q.told in
-    let e = same_read d s x done.x read done.new.0 in
-    absurd (not_both (left_at (after decode_first d.limit (traced x)).end) a left (subst (λ y. StaysInCode decode_first d.limit (traced y)) (sym e) done.new.1.stays))
-left_code d s k x a q read left (status.WriteFault target.Text) h = absurd (q.sink h)
-left_code d s k x a q read left (status.Refused file why) h = let r = h.1 q.told in absurd (not_thin r.0 why r.2 (thin_again d s r.0 x r.1 read.exe))
-left_code d s k x a q read left (status.BadInput n line) h = let r = (h.2 q.told).1 in absurd (r.2 (one_content (s.old d.input) r.0 [] r.1 read.input))
-left_code d s k x a q read left (status.LeftCode n b) h =
-    let r = h.1 q.told in
-    let e = same_read d s x r.0 read r.1 in
-    let there : LeavesCode decode_first d.limit (traced x) b = subst (λ y. LeavesCode decode_first d.limit (traced y) b) (sym e) r.2 in
-    inl (ap₂ (λ m c. status.LeftCode m c) h.0 (same_address (left_at (after decode_first d.limit (traced x)).end) b a there left))
-left_code d s k x a q read left (status.ReadFault file) h = absurd (no_read_fault d s k x [] file q read.exe.there read.input h.0 h.1)
-left_code d s k x a q read left (status.WriteFault target.File) h = absurd (q.store h.0)
-left_code d s k x a q read left status.OutOfMemory h = inr refl
-left_code d s k x a q read left status.Usage h = absurd h
+-- what is demanded isn't refused
+fit_not_refused : (d : Demand) (name x : List ℕ) (st : Status) → Meets d x → Refuses d name x st → ⊥
+fit_not_refused Thin name x st m r = not_thin x r.0 r.2 m
+fit_not_refused Accepted name x st m r = no_fault (fault_of x) r.0 r.2 m
+fit_not_refused (InputNumber k) name x st m r = no_line (input_of x) m.0 r.0 m.1 r.2
 
-complete : (d : Debloat) (s : StoreCalls) (k : SinkCalls) (x : List ℕ) → IsQuiet s k → AreRead d s.old x → StaysInCode decode_first d.limit (traced x) → (answer : Status) → CauseOf d s k answer → Gives status.Ok answer
-complete d s k x q read stays status.Ok h = inl refl
-complete d s k x q read stays (status.WriteFault target.Text) h = absurd (q.sink h)
-complete d s k x q read stays (status.Refused file why) h = let r = h.1 q.told in absurd (not_thin r.0 why r.2 (thin_again d s r.0 x r.1 read.exe))
-complete d s k x q read stays (status.BadInput n line) h = let r = (h.2 q.told).1 in absurd (r.2 (one_content (s.old d.input) r.0 [] r.1 read.input))
-complete d s k x q read stays (status.LeftCode n b) h =
-    let r = h.1 q.told in
-    let e = same_read d s x r.0 read r.1 in
-    absurd (not_both (left_at (after decode_first d.limit (traced x)).end) b (subst (λ y. LeavesCode decode_first d.limit (traced y) b) (sym e) r.2) stays)
-complete d s k x q read stays (status.ReadFault file) h = absurd (no_read_fault d s k x [] file q read.exe.there read.input h.0 h.1)
-complete d s k x q read stays (status.WriteFault target.File) h = absurd (q.store h.0)
-complete d s k x q read stays status.OutOfMemory h = inr refl
-complete d s k x q read stays status.Usage h = absurd h
+-- and a file is refused in one way
+one_refusal : (d : Demand) (name x : List ℕ) (st other : Status) → Refuses d name x st → Refuses d name x other → st ≡ other
+one_refusal Thin name x st other a b = a.1 ∙ (ap (λ f. status.Refused name f) (one_fault x a.0 b.0 a.2 b.2) ∙ sym b.1)
+one_refusal Accepted name x st other a b = a.1 ∙ (ap (λ f. status.Refused name f) (same_fault (fault_of x) a.0 b.0 a.2 b.2) ∙ sym b.1)
+one_refusal (InputNumber k) name x st other a b = a.1 ∙ (ap (λ l. status.BadInput k l) (one_line (input_of x) a.0 b.0 a.2 b.2) ∙ sym b.1)
 
-pub answers_exactly : (d : Debloat) (s : StoreCalls) (k : SinkCalls) (answer : Status) → CauseOf d s k answer → AnswersExactly (Some (Debloating d)) s k answer
-answers_exactly d s k answer h quiet =
+-- where nothing fails, a read is refused for a missing name alone
+missing : (s : StoreCalls) (k : SinkCalls) (name : List ℕ) → IsQuiet s k → ReadCause s name → s.old name ≡ None
+missing s k name quiet cause = ⊎_elim (λ r. absurd (quiet.store r.0)) (λ m. m.1) cause
+
+unread : (name : List ℕ) (s : StoreCalls) (st : Status) → ReadRefusal name s st → (st ≡ status.OutOfMemory) ⊎ ((st ≡ status.ReadFault name) × ReadCause s name)
+unread name s (status.ReadFault file) h = inr (ap (λ f. status.ReadFault f) h.0, h.1)
+unread name s status.OutOfMemory h = inl refl
+unread name s _ h = absurd h
+
+order_memory : (ws : List Wanted) (files : Files) (End : Type 0) → End → IsInOrder ws files End status.OutOfMemory
+order_memory [] files End e = e
+order_memory (w ∷ ws) files End e = (record { missing = λ none. inr refl; refused = λ x st there r. inr refl }, λ fit. order_memory ws files End e)
+
+unread_exact : (w : Wanted) (ws : List Wanted) (s : StoreCalls) (k : SinkCalls) (End : Type 0) (answer : Status) → IsQuiet s k → (answer ≡ status.OutOfMemory → End)
+    → (answer ≡ status.OutOfMemory) ⊎ ((answer ≡ status.ReadFault w.name) × ReadCause s w.name) → IsInOrder (w ∷ ws) s.old End answer
+unread_exact w ws s k End answer q o h = ⊎_elim wanting there_not h
+  where
+    wanting : answer ≡ status.OutOfMemory → IsInOrder (w ∷ ws) s.old End answer
+    wanting e = let P : Status → Type 0 = λ a. IsInOrder (w ∷ ws) s.old End a in subst P (sym e) (order_memory (w ∷ ws) s.old End (o e))
+
+    there_not : (answer ≡ status.ReadFault w.name) × ReadCause s w.name → IsInOrder (w ∷ ws) s.old End answer
+    there_not r =
+        let none = missing s k w.name q r.1 in
+        (record { missing = λ e. inl r.0; refused = λ x st there u. absurd (is_there (s.old w.name) x there none) }, λ fit. absurd (is_there (s.old w.name) fit.0 fit.1 none))
+
+unfit_exact : (w : Wanted) (ws : List Wanted) (s : StoreCalls) (End : Type 0) (answer : Status) (x : List ℕ) → s.old w.name ≡ Some x → Refuses w.demand w.name x answer → IsInOrder (w ∷ ws) s.old End answer
+unfit_exact w ws s End answer x there refuses =
+    let again : (y : List ℕ) → s.old w.name ≡ Some y → Refuses w.demand w.name y answer = λ y e. subst (λ z. Refuses w.demand w.name z answer) (one_content (s.old w.name) x y there e) refuses in (
+      record {
+        missing = λ none. absurd (is_there (s.old w.name) x there none);
+        refused = λ y st e r. inl (one_refusal w.demand w.name y answer st (again y e) r);
+      },
+      λ fit. absurd (fit_not_refused w.demand w.name fit.0 answer fit.2 (again fit.0 fit.1)),
+    )
+
+read_answered : (w : Wanted) (s : StoreCalls) (answer : Status) (x : List ℕ) → s.old w.name ≡ Some x → Meets w.demand x → IsAnswered s.old w answer
+read_answered w s answer x there meets =
     record {
-      refused = λ x f e why. refused d s k x f quiet e why answer h;
-      bad_input = λ x i exe input some. bad_input d s k x i quiet exe input some answer h;
-      left_code = λ x a read left. left_code d s k x a quiet read left answer h;
-      complete = λ x read stays. complete d s k x quiet read stays answer h;
+      missing = λ none. absurd (is_there (s.old w.name) x there none);
+      refused = λ y st e r. absurd (fit_not_refused w.demand w.name y st (subst (Meets w.demand) (one_content (s.old w.name) x y there e) meets) r);
     }
 
+-- a course is the order of the answers, where nothing fails
+course_exact : (ws : List Wanted) (s : StoreCalls) (k : SinkCalls) (P : Status → Type 0) (End : Type 0) (answer : Status) → IsQuiet s k → (P answer → End) → (answer ≡ status.OutOfMemory → End)
+    → Course ws s P answer → IsInOrder ws s.old End answer
+course_exact [] s k P End answer q f o h = f h
+course_exact (w ∷ ws) s k P End answer q f o h =
+    ⊎_elim
+    (λ r. ⊎_elim (λ u. unread_exact w ws s k End answer q o (unread w.name s answer u)) (λ u. unfit_exact w ws s End answer u.0 (u.1 q.told) u.2) r)
+    (λ r. (read_answered w s answer r.0.0 (r.0.1 q.told) r.0.2, λ fit. course_exact ws s k P End answer q f o r.1)) h
+
+-- the inputs that files hold are fixed
+inputs_again : (s : StoreCalls) (names : List (List ℕ)) (inputs others : List Input) → IsTrue s.told → HoldInputs (Held s) names inputs → HoldInputs (holds s.old) names others → inputs ≡ others
+inputs_again s [] [] [] told a b = refl
+inputs_again s [] [] (j ∷ js) told a b = absurd b
+inputs_again s [] (i ∷ is) others told a b = absurd a
+inputs_again s (n ∷ ns) [] others told a b = absurd a
+inputs_again s (n ∷ ns) (i ∷ is) [] told a b = absurd b
+inputs_again s (n ∷ ns) (i ∷ is) (j ∷ js) told a b =
+    let same : a.0.0 ≡ b.0.0 = one_content (s.old n) a.0.0 b.0.0 (a.0.1 told) b.0.1 in
+    ap₂ (λ h t. h ∷ t) (one_input (input_of b.0.0) i j (ap input_of (sym same) ∙ a.0.2) b.0.2) (inputs_again s ns is js told a.1 b.1)
+
+-- one run is the first that leaves the code
+left_once : (limit : ℕ) (x : List ℕ) (k : ℕ) (inputs : List Input) (n a m b : ℕ) → LeavesFirst limit x k inputs n a → LeavesFirst limit x k inputs m b → status.LeftCode n a ≡ status.LeftCode m b
+left_once limit x k [] n a m b g h = absurd g
+left_once limit x k (i ∷ is) n a m b g h =
+    let o : Option ℕ = left_at (after decode_first limit (traced x i)).end in
+    ⊎_elim
+    (λ p. ⊎_elim (λ q. ap₂ (λ c d. status.LeftCode c d) (p.0 ∙ sym q.0) (one_address o a b p.1 q.1)) (λ q. absurd (not_both o a p.1 q.0)) h)
+    (λ p. ⊎_elim (λ q. absurd (not_both o b q.1 p.0)) (λ q. left_once limit x (suc k) is n a m b p.1 q.1) h) g
+
+stay_not_left : (limit : ℕ) (x : List ℕ) (k : ℕ) (inputs : List Input) (n a : ℕ) → AllStay limit x inputs → LeavesFirst limit x k inputs n a → ⊥
+stay_not_left limit x k [] n a all h = h
+stay_not_left limit x k (i ∷ is) n a all h =
+    ⊎_elim (λ p. not_both (left_at (after decode_first limit (traced x i)).end) a p.1 all.0) (λ p. stay_not_left limit x (suc k) is n a all.1 p.1) h
+
+-- what was read is what the files hold
+stay_again : (d : Debloat) (s : StoreCalls) (x y : List ℕ) (is js : List Input) → IsTrue s.told → AreRead d (Held s) x is → AreRead d (holds s.old) y js → AllStay d.limit x is → AllStay d.limit y js
+stay_again d s x y is js told a b all =
+    subst (λ l. AllStay d.limit y l) (inputs_again s d.inputs is js told a.inputs_are b.inputs_are)
+    (subst (λ z. AllStay d.limit z is) (one_content (s.old d.exe) x y (a.exe told) b.exe) all)
+
+left_again : (d : Debloat) (s : StoreCalls) (x y : List ℕ) (is js : List Input) (n a : ℕ) → IsTrue s.told → AreRead d (Held s) x is → AreRead d (holds s.old) y js → LeavesFirst d.limit x 1 is n a → LeavesFirst d.limit y 1 js n a
+left_again d s x y is js n a told g h left =
+    subst (λ l. LeavesFirst d.limit y 1 l n a) (inputs_again s d.inputs is js told g.inputs_are h.inputs_are)
+    (subst (λ z. LeavesFirst d.limit z 1 is n a) (one_content (s.old d.exe) x y (g.exe told) h.exe) left)
+
+ends_wanting : (d : Debloat) (files : Files) → EndsExactly d files status.OutOfMemory
+ends_wanting d files = record { left_code = λ x inputs n a read left. inr refl; complete = λ x inputs read all. inr refl }
+
+ends_exactly : (d : Debloat) (s : StoreCalls) (k : SinkCalls) (answer : Status) → IsQuiet s k → LastAnswer (Debloating d) s k answer → EndsExactly d s.old answer
+ends_exactly d s k status.Ok q h =
+    let done = h.1 in
+    record {
+      left_code = λ y js n a read left. absurd (stay_not_left d.limit y 1 js n a (stay_again d s done.x y done.inputs js q.told done.new.read read done.new.debloated.stay) left);
+      complete = λ y js read all. inl refl;
+    }
+ends_exactly d s k (status.LeftCode m b) q h =
+    record {
+      left_code = λ y js n a read left. inl (left_once d.limit y 1 js m b n a (left_again d s h.0 y h.1 js m b q.told h.2 read h.3) left);
+      complete = λ y js read all. absurd (stay_not_left d.limit y 1 js m b all (left_again d s h.0 y h.1 js m b q.told h.2 read h.3));
+    }
+ends_exactly d s k (status.WriteFault target.Text) q h = absurd (q.sink h)
+ends_exactly d s k (status.WriteFault target.File) q h = absurd (q.store h.0)
+ends_exactly d s k status.OutOfMemory q h = ends_wanting d s.old
+ends_exactly d s k _ q h = absurd h
+
+check_ends : (c : Check) (s : StoreCalls) (k : SinkCalls) (answer : Status) → IsQuiet s k → LastAnswer (Checking c) s k answer → Gives status.Ok answer
+check_ends c s k status.Ok q h = inl refl
+check_ends c s k (status.WriteFault target.Text) q h = absurd (q.sink h)
+check_ends c s k status.OutOfMemory q h = inr refl
+check_ends c s k _ q h = absurd h
+
+pub exactly : (form : Form) (s : StoreCalls) (k : SinkCalls) (answer : Status) → CauseOf (Some form) s k answer → IsExactOf (Some form) s k answer
+exactly (Debloating d) s k answer h quiet =
+    let P : Status → Type 0 = λ a. EndsExactly d s.old a in
+    course_exact (wanted_by (Debloating d)) s k (LastAnswer (Debloating d) s k) (LastExact (Debloating d) s.old answer) answer quiet (ends_exactly d s k answer quiet) (λ e. subst P (sym e) (ends_wanting d s.old)) h
+exactly (Checking c) s k answer h quiet =
+    course_exact (wanted_by (Checking c)) s k (LastAnswer (Checking c) s k) (LastExact (Checking c) s.old answer) answer quiet (check_ends c s k answer quiet) (λ e. inr e) h
+
 -- the headline, from the cause of Ok
-pub headline : (d : Debloat) (s : StoreCalls) (k : SinkCalls) (answer : Status) → CauseOf d s k answer → Headline (Some (Debloating d)) s answer
-headline d s k status.Ok h = λ told.
-    let done = h told in
-    let new = done.new in
-    record { x = done.x; w = done.w; exe = new.0.exe.there; input = new.0.input; out = done.out; keeps = new.1.keeps; inert = new.1.inert; uncut = new.1.uncut }
-headline d s k (status.WriteFault target) h = tt
-headline d s k (status.Refused file why) h = tt
-headline d s k (status.BadInput n line) h = tt
-headline d s k (status.LeftCode n address) h = tt
-headline d s k (status.ReadFault file) h = tt
-headline d s k status.OutOfMemory h = tt
-headline d s k status.Usage h = tt
+inputs_told : (s : StoreCalls) (names : List (List ℕ)) (inputs : List Input) → IsTrue s.told → HoldInputs (Held s) names inputs → HoldInputs (λ name bytes. s.old name ≡ Some bytes) names inputs
+inputs_told s [] [] told h = tt
+inputs_told s [] (i ∷ is) told h = absurd h
+inputs_told s (n ∷ ns) [] told h = absurd h
+inputs_told s (n ∷ ns) (i ∷ is) told h = ((h.0.0, h.0.1 told, h.0.2), inputs_told s ns is told h.1)
+
+pub headline : (form : Form) (s : StoreCalls) (k : SinkCalls) (answer : Status) → CauseOf (Some form) s k answer → HeadlineOf (Some form) s answer
+headline (Debloating d) s k status.Ok h = λ told.
+    let done = (course_ok (wanted_by (Debloating d)) s (LastAnswer (Debloating d) s k) h).1 in
+    let read = done.new.read in
+    let new = done.new.debloated in
+    record {
+      x = done.x;
+      inputs = done.inputs;
+      w = done.w;
+      exe = read.exe told;
+      inputs_are = inputs_told s d.inputs done.inputs told read.inputs_are;
+      out = done.out told;
+      keeps = new.keeps;
+      inert = new.inert;
+      uncut = new.uncut;
+    }
+headline (Debloating d) s k _ h = tt
+headline (Checking c) s k answer h = tt

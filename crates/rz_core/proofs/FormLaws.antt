@@ -1,7 +1,7 @@
 -- Lists of words of a form.
 use Rattle.std.proofs.Common.{◌≡◌, ℕ, ◌^◌, ◌-◌, ◌≤◌, Bool, true, ◌&&◌, nat_le, List, [], ◌∷◌, length, get_or, min, codes, bytes_eq, Some, sym, ap, ◌∙◌, arith, leb-true}
 use Rattle.std.proofs.lemmas.Bool.{and_parts, cond-true}
-use Rattle.rz_core.specs.Words.{Debloat, debloat_of, check_of, Check, is_check, is_debloat, is_number, is_limit, is_name, digits_value}
+use Rattle.rz_core.specs.Words.{Debloat, debloat_of, check_of, is_check, is_debloat, is_number, is_limit, is_name, digits_value}
 
 -- a list of seven is the list of its items
 pub seven : (ws : List (List ℕ)) (a b c d e f g : List ℕ) → length ws ≡ 7 → a ≡ get_or ws 0 a → b ≡ get_or ws 1 b → c ≡ get_or ws 2 c → d ≡ get_or ws 3 d → e ≡ get_or ws 4 e → f ≡ get_or ws 5 f → g ≡ get_or ws 6 g
@@ -36,10 +36,10 @@ pub form_is : (ws : List (List ℕ)) (command exe classes level limit out input 
     → ws ≡ command ∷ exe ∷ classes ∷ level ∷ limit ∷ out ∷ input ∷ []
     → is_debloat command exe classes level limit out input ≡ true
     → n ≡ min (digits_value limit) (2 ^ 64 - 1)
-    → debloat_of ws ≡ Some (record { exe = exe; limit = n; out = out; input = input })
+    → debloat_of ws ≡ Some (record { exe = exe; limit = n; out = out; inputs = input ∷ [] })
 form_is ws command exe classes level limit out input n e h m =
     let k : n ≡ digits_value limit = m ∙ limit_is command exe classes level limit out input h in
-    ap debloat_of e ∙ cond-true (is_debloat command exe classes level limit out input) _ _ h ∙ ap (λ l. let d : Debloat = record { exe = exe; limit = l; out = out; input = input } in Some d) (sym k)
+    ap debloat_of e ∙ cond-true (is_debloat command exe classes level limit out input) _ _ h ∙ ap (λ l. let d : Debloat = record { exe = exe; limit = l; out = out; inputs = input ∷ [] } in Some d) (sym k)
 
 -- a list of two is the list of its items
 pub two : (ws : List (List ℕ)) (a b : List ℕ) → length ws ≡ 2 → a ≡ get_or ws 0 a → b ≡ get_or ws 1 b → ws ≡ a ∷ b ∷ []

@@ -1,6 +1,6 @@
 pub mod FormLaws
 pub mod ReadLaws
+pub mod CourseLaws
 pub mod CauseLaws
-pub mod CheckLaws
 pub mod ExactLaws
 pub mod MadeLaws

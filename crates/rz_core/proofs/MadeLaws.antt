@@ -13,9 +13,7 @@ use Rattle.rz_machine.specs.First.{decode_first}
 use Rattle.rz_elf.specs.Loaded.{loaded}
 use Rattle.rz_rewrite.specs.ThinElf.{thin_elf}
 use Rattle.rz_rewrite.specs.Thin.{IsThin}
-use Rattle.rz_sys.specs.Input.{empty_input}
 use Rattle.rz_machine.specs.Start.{start}
-use Rattle.rz_machine.specs.Begun.{recorded}
 use Rattle.rz_machine.specs.LeftCode.{StaysInCode}
 use Rattle.rz_machine.specs.Recorded.{IsUncut}
 use Rattle.rz_machine.specs.Nodes.{Code, code_in, StandsIn}
@@ -61,39 +59,37 @@ abbrev pub nothing : Kept
 nothing = record { nodes = []; edges = [] }
 
 -- the report names no sites
-pub report_is : (elf : Elf) (limit : ℕ) (kept : Kept) (report : List ℕ) → IsOfThin elf → kept ≡ kept_of limit elf.bytes
+pub report_is : (elf : Elf) (limit : ℕ) (input : Input) (kept : Kept) (report : List ℕ) → IsOfThin elf → kept ≡ kept_of limit elf.bytes (input ∷ [])
     → report ≡ report_text (added decode_first (loaded elf) kept).scratch (length kept.edges) (length kept.nodes) 0 0
-    → report ≡ report_of limit elf.bytes
-report_is elf limit kept report h same e =
+    → report ≡ report_of limit elf.bytes (input ∷ [])
+report_is elf limit input kept report h same e =
     let m : Code = code_in (image_of elf.bytes).loads in
-    let k : Kept = kept_of limit elf.bytes in
+    let k : Kept = kept_of limit elf.bytes (input ∷ []) in
     e
     ∙ ap₂ (λ (i : Image) (r : Kept). report_text (added decode_first i r).scratch (length r.edges) (length r.nodes) 0 0) h.image same
     ∙ ap₂ (λ (es : List (ℕ × ℕ)) (ns : List ℕ). report_text (added decode_first (image_of elf.bytes) k).scratch (length k.edges) (length k.nodes) (length es) (length ns)) (sym (site_edges-first m (sorted_edges k.edges))) (sym (sites-first m (sorted k.nodes)))
 
 -- what is made of a thin file for the set that its run recorded
-pub debloated_of : (elf : Elf) (limit : ℕ) (kept : Kept) (w : List ℕ) → IsOfThin elf → kept ≡ kept_of limit elf.bytes
-    → StaysInCode decode_first limit (traced elf.bytes) → IsUncut decode_first kept.edges (traced elf.bytes) limit
+pub debloated_of : (elf : Elf) (limit : ℕ) (input : Input) (kept : Kept) (w : List ℕ) → kept ≡ kept_of limit elf.bytes (input ∷ [])
+    → StaysInCode decode_first limit (traced elf.bytes input) → IsUncut decode_first kept.edges (traced elf.bytes input) limit
     → Keeps decode_first elf.bytes w kept → Inert decode_first elf.bytes w kept
-    → IsDebloated limit elf.bytes w
-debloated_of elf limit kept w h same stays uncut keeps inert =
+    → IsDebloated limit elf.bytes (input ∷ []) w
+debloated_of elf limit input kept w same stays uncut keeps inert =
     record {
-      thin = h.thin;
-      stays = stays;
+      stay = (stays, tt);
       keeps = subst (Keeps decode_first elf.bytes w) same keeps;
-      uncut = subst (λ (k : Kept). IsUncut decode_first k.edges (traced elf.bytes) limit) same uncut;
+      uncut = (subst (λ (k : Kept). IsUncut decode_first k.edges (traced elf.bytes input) limit) same uncut, tt);
       inert = subst (Inert decode_first elf.bytes w) same inert;
     }
 
--- the run of what is loaded of a thin file on an empty input is the traced run
-pub traced_is : (elf : Elf) (input : Input) → IsOfThin elf → input ≡ empty_input → start (loaded elf) input ≡ traced elf.bytes
-traced_is elf input h e = ap₂ (λ (i : Image) (n : Input). start i n) h.image e
+-- the run of what is loaded of a thin file is the traced run
+pub traced_is : (elf : Elf) (input : Input) → IsOfThin elf → start (loaded elf) input ≡ traced elf.bytes input
+traced_is elf input h = ap (λ (i : Image). start i input) h.image
 
 -- what was recorded from nothing is the kept set
-pub kept_is : (elf : Elf) (limit : ℕ) (input : Input) (kept old : Kept) → IsOfThin elf → input ≡ empty_input → old ≡ nothing
-    → kept ≡ with_run decode_first limit (start (loaded elf) input) old → kept ≡ kept_of limit elf.bytes
-unfolding with_run recorded
-kept_is elf limit input kept old h e o is = is ∙ ap₂ (λ (s : Machine) (r : Kept). with_run decode_first limit s r) (traced_is elf input h e) o
+pub kept_is : (elf : Elf) (limit : ℕ) (input : Input) (kept old : Kept) → IsOfThin elf → old ≡ nothing
+    → kept ≡ with_run decode_first limit (start (loaded elf) input) old → kept ≡ kept_of limit elf.bytes (input ∷ [])
+kept_is elf limit input kept old h o is = is ∙ ap₂ (λ (s : Machine) (r : Kept). with_run decode_first limit s r) (traced_is elf input h) o
 
 pub from_nothing : (code : Code) (old : Kept) → old ≡ nothing → StandsIn decode_first code old
 from_nothing code old o = subst (StandsIn decode_first code) (sym o) (nothing_stands decode_first code)

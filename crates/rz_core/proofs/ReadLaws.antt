@@ -1,6 +1,9 @@
 -- What a bounded read says of the whole file.
 use Rattle.std.proofs.Common.{◌≡◌, ◌≢◌, ◌==◌, ◌++◌, drop, if◌then◌else◌, inl, inr, ⊎_elim, Option, Some, None, lt-ltb, Bool, true, false, eqb-true, eq-eqb, ℕ, ◌+◌, ◌<◌, ◌≤◌, List, [], ◌∷◌, length, take, min, refl, sym, ap, ◌∙◌, subst, arith, take_all, length-take}
 use Rattle.std.proofs.lemmas.Bool.{cases_lt}
+use Rattle.std.specs.Prelude.{IsTrue, Err}
+use Rattle.rz_outside.specs.StoreAnswers.{Files, ReadsFirst}
+use Rattle.rz_core.specs.Inputs.{input_of}
 use Rattle.rz_elf.specs.declared.fault.ElfFault.{ElfFault}
 use Rattle.rz_elf.specs.declared.fault.ElfFault.TheVariants as fault
 use Rattle.rz_elf.specs.Elf.{Condition, first_of, file_conditions, header_conditions, load_conditions, placed, loads, file_header, fault_of}
@@ -88,3 +91,14 @@ none_of b xs ys same e t = ap length (sym same) ∙ eqb-true (length xs) 0 (sym 
 
 pub some_of : (b : Bool) (xs ys : List ℕ) → xs ≡ ys → b ≡ (length xs == 0) → b ≡ false → 0 < length ys
 some_of b xs ys same e f = let ne : length xs ≢ 0 = λ z. (let t : (length xs == 0) ≡ true = eq-eqb (length xs) 0 z in let u : (length xs == 0) ≡ false = sym e ∙ f in cc) in let l = ap length same in omega arith
+
+-- what holds of the first bytes, and then of the whole file, holds of what was read
+pub of_read : (told : Bool) (files : Files) (name : List ℕ) (max : ℕ) (bytes : List ℕ) (P : List ℕ → Type 0) → ReadsFirst told files name max bytes → P bytes
+    → ((whole : List ℕ) → bytes ≡ take max whole → P whole) → (x : List ℕ) × (IsTrue told → files name ≡ Some x) × P x
+of_read true files name max bytes P reads here up = let r = reads refl in (r.0, λ t. r.1, up r.0 r.2)
+of_read false files name max bytes P reads here up = (bytes, λ t. absurd (cc), here)
+
+-- a file that isn't empty holds no input so far
+pub no_input : (x : List ℕ) → x ≢ [] → input_of x ≡ Err 1
+no_input [] some = absurd (some refl)
+no_input (b ∷ bytes) some = refl

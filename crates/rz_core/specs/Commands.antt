@@ -1,5 +1,5 @@
 -- A command's words as the code holds them.
-use Rattle.std.specs.Prelude.{◌≤◌}
+use Rattle.std.specs.Prelude.{◌≤◌, [], ◌∷◌}
 use Rattle.rz_core.specs.declared.words.Debloat.{Debloat as HeldDebloat}
 use Rattle.rz_core.specs.declared.words.Check.{Check as HeldCheck}
 use Rattle.rz_core.specs.declared.words.Form.{Form as HeldForm}
@@ -7,7 +7,7 @@ use Rattle.rz_core.specs.declared.words.Form.TheVariants as held
 use Rattle.rz_core.specs.Words.{Debloat, Check, Form, Debloating, Checking}
 
 abbrev pub words_of : HeldDebloat → Debloat
-words_of d = record { exe = d.exe.now; limit = d.limit; out = d.out.now; input = d.input.now }
+words_of d = record { exe = d.exe.now; limit = d.limit; out = d.out.now; inputs = d.input.now ∷ [] }
 
 abbrev pub check_words_of : HeldCheck → Check
 check_words_of c = record { exe = c.exe.now }

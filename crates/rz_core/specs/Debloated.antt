@@ -1,42 +1,53 @@
--- What debloating makes of a file: the kept set of its run on the empty input, the written file, and the report.
-use Rattle.std.specs.Prelude.{ℕ, List, length}
+-- What debloating makes of a file and inputs: the kept set of their runs, the written file, and the report.
+use Rattle.std.specs.Prelude.{◌≡◌, ◌⊎◌, ℕ, suc, List, [], ◌∷◌, length, fold}
+use Rattle.std.specs.List.{AllByRecursion}
 use Rattle.rz_machine.specs.declared.machine.Machine.{Machine}
+use Rattle.rz_sys.specs.declared.input.Input.{Input}
 use Rattle.rz_machine.specs.Kept.{Kept}
 use Rattle.rz_elf.specs.Elf.{image_of}
 use Rattle.rz_machine.specs.First.{decode_first}
-use Rattle.rz_sys.specs.Input.{empty_input}
 use Rattle.rz_machine.specs.Start.{start}
-use Rattle.rz_machine.specs.Begun.{recorded}
-use Rattle.rz_machine.specs.LeftCode.{StaysInCode}
+use Rattle.rz_machine.specs.Traced.{with_run}
+use Rattle.rz_machine.specs.LeftCode.{LeavesCode, StaysInCode}
 use Rattle.rz_machine.specs.Added.{added, site_count, site_edge_count}
 use Rattle.rz_machine.specs.Keeps.{Keeps}
 use Rattle.rz_machine.specs.Recorded.{IsUncut}
 use Rattle.rz_machine.specs.WrittenFile.{Inert}
-use Rattle.rz_rewrite.specs.Thin.{IsThin}
 use Rattle.rz_core.specs.Texts.{report_text}
 
--- the opening state of the traced run
-abbrev pub traced : List ℕ → Machine
-traced x = start (image_of x) empty_input
+-- the opening state of a traced run
+abbrev pub traced : List ℕ → Input → Machine
+traced x input = start (image_of x) input
 
--- the nodes and edges of the first `limit` steps of that run
-abbrev pub kept_of : ℕ → List ℕ → Kept
-kept_of limit x = recorded decode_first limit (traced x)
+-- the nodes and edges of the first `limit` steps of the runs on these inputs
+abbrev pub kept_of : ℕ → List ℕ → List Input → Kept
+kept_of limit x inputs =
+    fold (λ kept input. with_run decode_first limit (traced x input) kept) (record { nodes = []; edges = [] }) inputs
 
--- w is what debloating makes of x with this limit
-pub record IsDebloated (limit : ℕ) (x w : List ℕ) : Type 0 where
-  pub thin : IsThin x
-  pub stays : StaysInCode decode_first limit (traced x)
+-- no run leaves the code in its first `limit` steps
+abbrev pub AllStay : ℕ → List ℕ → List Input → Type 0
+AllStay limit x inputs = AllByRecursion (λ input. StaysInCode decode_first limit (traced x input)) inputs
+
+-- of the inputs from number k on, that of number n is the first whose run leaves the code, at this address
+abbrev pub LeavesFirst : ℕ → List ℕ → ℕ → List Input → ℕ → ℕ → Type 0
+LeavesFirst limit x k [] n address = ⊥
+LeavesFirst limit x k (input ∷ inputs) n address =
+    ((n ≡ k) × LeavesCode decode_first limit (traced x input) address)
+    ⊎ (StaysInCode decode_first limit (traced x input) × LeavesFirst limit x (suc k) inputs n address)
+
+-- w is what debloating makes of x and these inputs with this limit
+pub record IsDebloated (limit : ℕ) (x : List ℕ) (inputs : List Input) (w : List ℕ) : Type 0 where
+  pub stay : AllStay limit x inputs
   -- each run of w follows x's, up to the first edge that isn't kept
-  pub keeps : Keeps decode_first x w (kept_of limit x)
-  -- the traced run takes no such edge before it ended or its limit came
-  pub uncut : IsUncut decode_first (kept_of limit x).edges (traced x) limit
-  pub inert : Inert decode_first x w (kept_of limit x)
+  pub keeps : Keeps decode_first x w (kept_of limit x inputs)
+  -- the traced runs take no such edge before they ended or their limit came
+  pub uncut : AllByRecursion (λ input. IsUncut decode_first (kept_of limit x inputs).edges (traced x input) limit) inputs
+  pub inert : Inert decode_first x w (kept_of limit x inputs)
 
 -- the report of it
-abbrev pub report_of : ℕ → List ℕ → List ℕ
-report_of limit x =
-    let kept = kept_of limit x in
+abbrev pub report_of : ℕ → List ℕ → List Input → List ℕ
+report_of limit x inputs =
+    let kept = kept_of limit x inputs in
     let image = image_of x in
     report_text (added decode_first image kept).scratch (length kept.edges) (length kept.nodes)
     (site_edge_count decode_first image kept) (site_count decode_first image kept)

@@ -1,9 +1,11 @@
--- What is made of a file, and when it is refused.
-use Rattle.std.specs.Prelude.{◌≡◌, ◌<◌, ℕ, List, None}
+-- What is made of a file and an input, and when it is refused.
+use Rattle.std.specs.Prelude.{◌≡◌, ◌⊎◌, ◌<◌, ℕ, IsTrue, List, take, Some, None}
 use Rattle.std.specs.List.{AllByRecursion}
-use Rattle.rz_outside.specs.StoreAnswers.{Files}
+use Rattle.rz_outside.specs.Counts.{Rose}
+use Rattle.rz_outside.specs.StoreCalls.{StoreCalls}
 use Rattle.rz_elf.specs.declared.elf.Elf.{Elf}
 use Rattle.rz_elf.specs.Elf.{fault_of, image_of}
+use Rattle.rz_sys.specs.declared.input.Input.{Input}
 use Rattle.rz_machine.specs.First.{decode_first}
 use Rattle.rz_machine.specs.LeftCode.{LeavesCode}
 use Rattle.rz_elf.specs.Loaded.{loaded}
@@ -12,9 +14,13 @@ use Rattle.rz_rewrite.specs.Thin.{IsThin}
 use Rattle.rz_core.specs.declared.making.MakeRefusal.{MakeRefusal}
 use Rattle.rz_core.specs.declared.making.MakeRefusal.TheVariants as make
 use Rattle.rz_core.specs.declared.making.Made.{Made}
-use Rattle.rz_core.specs.Words.{Debloat}
-use Rattle.rz_core.specs.Debloated.{traced, IsDebloated, report_of}
-use Rattle.rz_core.specs.Causes.{AreRead}
+use Rattle.rz_core.specs.declared.status.Status.{Status}
+use Rattle.rz_core.specs.declared.status.Status.TheVariants as status
+use Rattle.rz_core.specs.declared.status.Target.TheVariants as target
+use Rattle.rz_core.specs.Words.{Debloat, Form, Debloating}
+use Rattle.rz_core.specs.Reading.{Course, wanted_by}
+use Rattle.rz_core.specs.Debloated.{traced, report_of}
+use Rattle.rz_core.specs.Causes.{IsNew, LastRefusal, LeftCodeOf}
 
 -- a thin file as it was read
 pub record IsOfThin (elf : Elf) : Type 0 where
@@ -24,13 +30,34 @@ pub record IsOfThin (elf : Elf) : Type 0 where
   pub image : loaded elf ≡ image_of elf.bytes
   pub bytes_fit : AllByRecursion (λ b. b < 256) elf.bytes
 
-abbrev pub MakeRefused : ℕ → List ℕ → MakeRefusal → Type 0
-MakeRefused limit x (make.LeftCode a) = LeavesCode decode_first limit (traced x) a
-MakeRefused limit x make.OutOfMemory = Unit {0}
+abbrev pub MakeRefused : ℕ → List ℕ → Input → MakeRefusal → Type 0
+MakeRefused limit x input (make.LeftCode a) = LeavesCode decode_first limit (traced x input) a
+MakeRefused limit x input make.OutOfMemory = Unit {0}
 
 -- what is made of the files that a command reads
-pub record IsMade (d : Debloat) (files : Files) (m : Made) : Type 0 where
+pub record IsMade (d : Debloat) (Holds : List ℕ → List ℕ → Type 0) (m : Made) : Type 0 where
   pub x : List ℕ
-  pub read : AreRead d files x
-  pub debloated : IsDebloated d.limit x m.bytes
-  pub report_is : m.report ≡ report_of d.limit x
+  pub inputs : List Input
+  pub new : IsNew d Holds x inputs m.bytes
+  pub report_is : m.report ≡ report_of d.limit x inputs
+
+-- a form is refused
+abbrev pub IsRefusal : Form → StoreCalls → Status → Type 0
+IsRefusal form s answer = Course (wanted_by form) s (LastRefusal form s) answer
+
+-- before the write
+abbrev pub LastMakeRefusal : Debloat → StoreCalls → Status → Type 0
+LastMakeRefusal d s (status.LeftCode n address) = LeftCodeOf (Debloating d) s n address
+LastMakeRefusal d s status.OutOfMemory = Unit {0}
+LastMakeRefusal d s _ = ⊥
+
+abbrev pub IsMakeRefusal : Debloat → StoreCalls → Status → Type 0
+IsMakeRefusal d s answer = Course (wanted_by (Debloating d)) s (LastMakeRefusal d s) answer
+
+-- when a write of a name is refused, and how, and what the name holds then
+abbrev pub WriteRefusal : List ℕ → List ℕ → StoreCalls → Status → Type 0
+WriteRefusal name bytes s (status.WriteFault target.File) =
+    Rose s.before s.now × (s.failed ≡ name)
+    × (IsTrue s.told → (s.new name ≡ s.old name) ⊎ ((n : ℕ) × (s.new name ≡ Some (take n bytes))))
+WriteRefusal name bytes s status.OutOfMemory = s.new name ≡ s.old name
+WriteRefusal name bytes s _ = ⊥

@@ -25,17 +25,18 @@ pub record Debloat : Type 0 where
   pub exe : List ℕ
   pub limit : ℕ
   pub out : List ℕ
-  pub input : List ℕ
+  pub inputs : List (List ℕ)
 
 abbrev pub is_debloat : List ℕ → List ℕ → List ℕ → List ℕ → List ℕ → List ℕ → List ℕ → Bool
 is_debloat command exe classes level limit out input =
-    bytes_eq command (codes "debloat") && is_name exe && bytes_eq classes (codes "-") && bytes_eq level (codes "exact") && is_limit limit && is_name out && is_name input
+    bytes_eq command (codes "debloat") && is_name exe && bytes_eq classes (codes "-") && bytes_eq level (codes "exact")
+    && is_limit limit && is_name out && is_name input
 
 -- the words of `debloat`
 abbrev pub debloat_of : List (List ℕ) → Option Debloat
 debloat_of (command ∷ exe ∷ classes ∷ level ∷ limit ∷ out ∷ input ∷ []) =
     if is_debloat command exe classes level limit out input
-    then Some (record { exe = exe; limit = digits_value limit; out = out; input = input })
+    then Some (record { exe = exe; limit = digits_value limit; out = out; inputs = input ∷ [] })
     else None
 debloat_of _ = None
 

@@ -1,10 +1,12 @@
 //! The command `check`: whether a file is accepted, and what it loads.
 
-ghost use Rattle.std.specs.Prelude.{◌≡◌, ◌≤◌, Some, None, IfOk, IfErr, IsTrue};
+ghost use Rattle.std.specs.Prelude.{◌≡◌, ◌≤◌, None, IfOk, IfErr};
 ghost use Rattle.rz_outside.specs.StoreAnswers.{SameFiles};
+ghost use Rattle.rz_outside.specs.StoreCalls.{store_calls, Held};
 ghost use Rattle.rz_elf.specs.Elf.{fault_of};
-ghost use Rattle.rz_core.specs.Causes.{CheckRefusal, IsChecked, checked_text};
+ghost use Rattle.rz_core.specs.Causes.{IsChecked, checked_text};
 ghost use Rattle.rz_core.specs.Commands.{check_words_of};
+ghost use Rattle.rz_core.specs.Reading.{Accepted, FileRefusal, wanted};
 
 use crate::reading::{EXECUTABLE_MAX, read};
 use crate::status::Status;
@@ -22,8 +24,9 @@ pub fn check<S: Store>(alloc: Global, c: &Check<'_>, store: &mut S) -> Result<By
     ensures telling { S.told store.new ≡ S.told store.old }
     ensures kept { SameFiles (S.files store.old) (S.files store.new) }
     ensures count { S.faults store.old ≤ S.faults store.new }
-    ensures done { IfOk result (λ text. IsTrue (S.told store.old) → IsChecked (check_words_of c.now) (S.files store.old) text) }
-    ensures cause { IfErr result (CheckRefusal (check_words_of c.now) (record { told = S.told store.old; old = S.files store.old; new = S.files store.new; before = S.faults store.old; now = S.faults store.new; failed = S.failed_name store.new })) }
+    ensures done { IfOk result (IsChecked (check_words_of c.now) (store_calls S.Store store.old store.new)) }
+    ensures cause { IfErr result
+        (FileRefusal (wanted c.now.exe.now Accepted) (store_calls S.Store store.old store.new)) }
 {
     let elf = read_accepted(alloc, store, c.exe)?;
     match text_of(alloc, &elf) {
@@ -38,8 +41,10 @@ fn read_accepted<S: Store>(alloc: Global, store: &mut S, name: &Text) -> Result<
     ensures kept { SameFiles (S.files store.old) (S.files store.new) }
     ensures count { S.faults store.old ≤ S.faults store.new }
     ensures accepted { IfOk result (λ elf. fault_of elf.bytes ≡ None) }
-    ensures read { IfOk result (λ elf. IsTrue (S.told store.old) → S.files store.old name.now ≡ Some elf.bytes) }
-    ensures cause { IfErr result (CheckRefusal (record { exe = name.now }) (record { told = S.told store.old; old = S.files store.old; new = S.files store.new; before = S.faults store.old; now = S.faults store.new; failed = S.failed_name store.new })) }
+    ensures read { IfOk result (λ elf.
+        Held (store_calls S.Store store.old store.new) name.now elf.bytes) }
+    ensures cause { IfErr result
+        (FileRefusal (wanted name.now Accepted) (store_calls S.Store store.old store.new)) }
 {
     let Ok(file) = Text::from_slice(alloc, name.as_slice()) else {
         return Err(Status::OutOfMemory);

@@ -1,10 +1,15 @@
 //! The command `debloat`: what it reads, makes and writes.
 
-ghost use Rattle.std.specs.Prelude.{◌≡◌, ◌<◌, slice_index, ◌≤◌, ℕ, [], Some, IfOk, IfErr, OnOk, IsTrue};
-ghost use Rattle.rz_outside.specs.StoreAnswers.{SameFiles, SameOthers, ReadsFirst};
-ghost use Rattle.rz_core.specs.Causes.{IsReported, PrepareRefusal, RefusedBy, ReadRefusal, ExecutableRefusal, InputRefusal, WriteRefusal, FilesAfterForm};
+ghost use Rattle.std.specs.Prelude.{◌≡◌, ◌≤◌, IfOk, IfErr, OnOk};
+ghost use Rattle.rz_outside.specs.StoreAnswers.{SameFiles, SameOthers, Holds};
+ghost use Rattle.rz_outside.specs.StoreCalls.{store_calls, Held};
+ghost use Rattle.rz_sys.specs.Input.{IsEmptyInput};
+ghost use Rattle.rz_core.specs.Words.{Debloating};
 ghost use Rattle.rz_core.specs.Commands.{words_of};
-ghost use Rattle.rz_core.specs.Making.{IsMade, IsOfThin};
+ghost use Rattle.rz_core.specs.Inputs.{HoldsInput};
+ghost use Rattle.rz_core.specs.Reading.{Thin, InputNumber, FileRefusal, wanted};
+ghost use Rattle.rz_core.specs.Causes.{IsReported, FilesAfterDebloat};
+ghost use Rattle.rz_core.specs.Making.{IsMade, IsOfThin, IsRefusal, IsMakeRefusal, WriteRefusal};
 
 use crate::making::{Made, MakeRefusal, make};
 use crate::reading::{EXECUTABLE_MAX, TEXT_MAX, are_bytes, read};
@@ -12,6 +17,7 @@ use crate::status::{Status, Target};
 use crate::words::Debloat;
 use rz_elf::elf::Elf;
 use rz_elf::fault::ElfError;
+use rz_sys::input::Input;
 use rz_rewrite::thin::read_thin;
 use rz_num::{Bytes, OutOfMemory, Text};
 use rz_outside::{Store, WriteErr};
@@ -21,8 +27,9 @@ fn write<S: Store>(alloc: Global, store: &mut S, name: &Text, bytes: &Bytes) -> 
     ensures telling { S.told store.new ≡ S.told store.old }
     ensures others { SameOthers name.now (S.files store.old) (S.files store.new) }
     ensures count { S.faults store.old ≤ S.faults store.new }
-    ensures wrote { OnOk result (IsTrue (S.told store.old) → S.files store.new name.now ≡ Some bytes.now) }
-    ensures cause { IfErr result (WriteRefusal name.now bytes.now (record { told = S.told store.old; old = S.files store.old; new = S.files store.new; before = S.faults store.old; now = S.faults store.new; failed = S.failed_name store.new })) }
+    ensures wrote { OnOk result (Holds (S.told store.old) (S.files store.new) name.now bytes.now) }
+    ensures cause { IfErr result
+        (WriteRefusal name.now bytes.now (store_calls S.Store store.old store.new)) }
 {
     match store.write_all(alloc, name, bytes) {
         Ok(()) => Ok(()),
@@ -37,8 +44,10 @@ fn read_executable<S: Store>(alloc: Global, store: &mut S, name: &Text) -> Resul
     ensures kept { SameFiles (S.files store.old) (S.files store.new) }
     ensures count { S.faults store.old ≤ S.faults store.new }
     ensures thin { IfOk result IsOfThin }
-    ensures read { IfOk result (λ elf. IsTrue (S.told store.old) → S.files store.old name.now ≡ Some elf.bytes) }
-    ensures cause { IfErr result (ExecutableRefusal name.now (record { told = S.told store.old; old = S.files store.old; new = S.files store.new; before = S.faults store.old; now = S.faults store.new; failed = S.failed_name store.new })) }
+    ensures read { IfOk result (λ elf.
+        Held (store_calls S.Store store.old store.new) name.now elf.bytes) }
+    ensures cause { IfErr result
+        (FileRefusal (wanted name.now Thin) (store_calls S.Store store.old store.new)) }
 {
     let Ok(file) = Text::from_slice(alloc, name.as_slice()) else {
         return Err(Status::OutOfMemory);
@@ -52,17 +61,20 @@ fn read_executable<S: Store>(alloc: Global, store: &mut S, name: &Text) -> Resul
     }
 }
 
-// The input, which has to be empty.
-fn read_input<S: Store>(alloc: Global, store: &mut S, name: &Text) -> Result<(), Status>
+// The first input. So far a file of no bytes alone holds one.
+fn read_input<S: Store>(alloc: Global, store: &mut S, name: &Text) -> Result<Input, Status>
     ensures telling { S.told store.new ≡ S.told store.old }
     ensures kept { SameFiles (S.files store.old) (S.files store.new) }
     ensures count { S.faults store.old ≤ S.faults store.new }
-    ensures read { OnOk result (IsTrue (S.told store.old) → S.files store.old name.now ≡ Some []) }
-    ensures cause { IfErr result (InputRefusal name.now (record { told = S.told store.old; old = S.files store.old; new = S.files store.new; before = S.faults store.old; now = S.faults store.new; failed = S.failed_name store.new })) }
+    ensures empty { IfOk result IsEmptyInput }
+    ensures read { IfOk result
+        (HoldsInput (Held (store_calls S.Store store.old store.new)) name.now) }
+    ensures cause { IfErr result
+        (FileRefusal (wanted name.now (InputNumber 1)) (store_calls S.Store store.old store.new)) }
 {
     let bytes = read(alloc, store, name, TEXT_MAX)?;
     if bytes.as_slice().is_empty() {
-        Ok(())
+        Ok(Input::empty(alloc))
     } else {
         Err(Status::BadInput { input: 1, line: 1 })
     }
@@ -74,14 +86,14 @@ fn prepare<S: Store>(alloc: Global, d: &Debloat<'_>, store: &mut S) -> Result<Ma
     ensures telling { S.told store.new ≡ S.told store.old }
     ensures kept { SameFiles (S.files store.old) (S.files store.new) }
     ensures count { S.faults store.old ≤ S.faults store.new }
-    ensures made { IfOk result (λ m. IsTrue (S.told store.old) → IsMade (words_of d.now) (S.files store.old) m) }
-    ensures cause { IfErr result (PrepareRefusal (words_of d.now) (record { told = S.told store.old; old = S.files store.old; new = S.files store.new; before = S.faults store.old; now = S.faults store.new; failed = S.failed_name store.new })) }
+    ensures made { IfOk result
+        (IsMade (words_of d.now) (Held (store_calls S.Store store.old store.new))) }
+    ensures cause { IfErr result
+        (IsMakeRefusal (words_of d.now) (store_calls S.Store store.old store.new)) }
 {
     let elf = read_executable(alloc, store, d.exe)?;
-    if let Err(status) = read_input(alloc, store, d.input) {
-        return Err(status);
-    }
-    match make(alloc, &elf, d.limit) {
+    let input = read_input(alloc, store, d.input)?;
+    match make(alloc, &elf, &input, d.limit) {
         Ok(made) => Ok(made),
         Err(MakeRefusal::LeftCode(address)) => Err(Status::LeftCode { input: 1, address }),
         Err(MakeRefusal::OutOfMemory) => Err(Status::OutOfMemory),
@@ -94,9 +106,12 @@ pub fn debloat<S: Store>(alloc: Global, d: &Debloat<'_>, store: &mut S) -> Resul
     ensures telling { S.told store.new ≡ S.told store.old }
     ensures others { SameOthers d.now.out.now (S.files store.old) (S.files store.new) }
     ensures count { S.faults store.old ≤ S.faults store.new }
-    ensures done { IfOk result (λ report. IsTrue (S.told store.old) → IsReported (words_of d.now) (record { told = S.told store.old; old = S.files store.old; new = S.files store.new; before = S.faults store.old; now = S.faults store.new; failed = S.failed_name store.new }) report) }
-    ensures cause { IfErr result (RefusedBy (words_of d.now) (record { told = S.told store.old; old = S.files store.old; new = S.files store.new; before = S.faults store.old; now = S.faults store.new; failed = S.failed_name store.new })) }
-    ensures left { IfErr result (FilesAfterForm (words_of d.now) (record { told = S.told store.old; old = S.files store.old; new = S.files store.new; before = S.faults store.old; now = S.faults store.new; failed = S.failed_name store.new })) }
+    ensures done { IfOk result
+        (IsReported (words_of d.now) (store_calls S.Store store.old store.new)) }
+    ensures cause { IfErr result
+        (IsRefusal (Debloating (words_of d.now)) (store_calls S.Store store.old store.new)) }
+    ensures left { IfErr result
+        (FilesAfterDebloat (words_of d.now) (store_calls S.Store store.old store.new)) }
 {
     let made = prepare(alloc, d, store)?;
     write(alloc, store, d.out, &made.bytes)?;

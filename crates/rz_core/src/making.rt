@@ -1,14 +1,15 @@
 //! From a file to its new file: the trace, the new parts, the written file and the report.
 
-ghost use Rattle.std.specs.Prelude.{◌≡◌, ◌≤◌, length, IfOk, IfErr, OnOk};
+ghost use Rattle.std.specs.Prelude.{◌≡◌, ◌≤◌, [], ◌∷◌, length, IfOk, IfErr, OnOk};
 ghost use Rattle.rz_elf.specs.Loaded.{loaded};
 ghost use Rattle.rz_machine.specs.First.{decode_first};
 ghost use Rattle.rz_machine.specs.Added.{added};
 ghost use Rattle.rz_machine.specs.Keeps.{Keeps};
 ghost use Rattle.rz_machine.specs.LeftCode.{StaysInCode};
 ghost use Rattle.rz_machine.specs.Recorded.{IsUncut};
-ghost use Rattle.rz_machine.specs.Nodes.{code_in, IsPlausible};
+ghost use Rattle.rz_rewrite.specs.Rewritten.{CanRewrite};
 ghost use Rattle.rz_machine.specs.Traced.{kept_in};
+ghost use Rattle.rz_sys.specs.Input.{IsEmptyInput};
 ghost use Rattle.rz_machine.specs.WrittenFile.{Inert};
 ghost use Rattle.rz_core.specs.Debloated.{IsDebloated, kept_of, traced, report_of};
 ghost use Rattle.rz_core.specs.Making.{IsOfThin, MakeRefused};
@@ -38,34 +39,36 @@ pub struct Made {
     pub report: Bytes,
 }
 
-/// Debloats a thin file for its run of `limit` steps on the empty input.
-pub fn make(alloc: Global, elf: &Elf, limit: u64) -> Result<Made, MakeRefusal>
+/// Debloats a thin file for its run of `limit` steps on an input, which has to be empty so far.
+pub fn make(alloc: Global, elf: &Elf, input: &Input, limit: u64) -> Result<Made, MakeRefusal>
     requires thin { IsOfThin elf.now }
+    requires input { IsEmptyInput input.now }
     requires some { 1 ≤ limit }
-    ensures made { IfOk result (λ m. IsDebloated limit elf.now.bytes m.bytes) }
-    ensures report { IfOk result (λ m. m.report ≡ report_of limit elf.now.bytes) }
-    ensures err { IfErr result (MakeRefused limit elf.now.bytes) }
+    ensures made { IfOk result (λ m. IsDebloated limit elf.now.bytes (input.now ∷ []) m.bytes) }
+    ensures report { IfOk result (λ m. m.report ≡ report_of limit elf.now.bytes (input.now ∷ [])) }
+    ensures err { IfErr result (MakeRefused limit elf.now.bytes input.now) }
 {
-    let kept = record_run(alloc, elf, limit)?;
+    let kept = record_run(alloc, elf, input, limit)?;
     match write_new(alloc, elf, &kept) {
         Ok(made) => Ok(made),
         Err(OutOfMemory) => Err(MakeRefusal::OutOfMemory),
     }
 }
 
-// What the run of a thin file on the empty input records in its first `limit` steps.
-fn record_run(alloc: Global, elf: &Elf, limit: u64) -> Result<Record, MakeRefusal>
+// What the run of a thin file on an input records in its first `limit` steps.
+fn record_run(alloc: Global, elf: &Elf, input: &Input, limit: u64) -> Result<Record, MakeRefusal>
     requires thin { IsOfThin elf.now }
+    requires input { IsEmptyInput input.now }
     requires some { 1 ≤ limit }
-    ensures kept { IfOk result (λ kept. kept_in kept ≡ kept_of limit elf.now.bytes) }
-    ensures plausible { IfOk result (λ kept. IsPlausible decode_first (code_in (loaded elf.now).loads) (loaded elf.now).entry (kept_in kept)) }
-    ensures stays { OnOk result (StaysInCode decode_first limit (traced elf.now.bytes)) }
-    ensures uncut { IfOk result (λ kept. IsUncut decode_first kept.edges (traced elf.now.bytes) limit) }
-    ensures err { IfErr result (MakeRefused limit elf.now.bytes) }
+    ensures kept { IfOk result (λ kept. kept_in kept ≡ kept_of limit elf.now.bytes (input.now ∷ [])) }
+    ensures plausible { IfOk result (λ kept. CanRewrite decode_first (loaded elf.now) (kept_in kept)) }
+    ensures stays { OnOk result (StaysInCode decode_first limit (traced elf.now.bytes input.now)) }
+    ensures uncut { IfOk result (λ kept.
+        IsUncut decode_first kept.edges (traced elf.now.bytes input.now) limit) }
+    ensures err { IfErr result (MakeRefused limit elf.now.bytes input.now) }
 {
-    let input = Input::empty(alloc);
     let mut kept = Record::new(alloc);
-    match trace::<First>(alloc, elf, &input, limit, &mut kept) {
+    match trace::<First>(alloc, elf, input, limit, &mut kept) {
         Ok(()) => Ok(kept),
         Err(TraceRefusal::LeftCode(address)) => Err(MakeRefusal::LeftCode(address)),
         Err(TraceRefusal::OutOfMemory) => Err(MakeRefusal::OutOfMemory),
@@ -75,10 +78,12 @@ fn record_run(alloc: Global, elf: &Elf, limit: u64) -> Result<Record, MakeRefusa
 // The new file of a thin file for what is kept, and the report of it.
 fn write_new(alloc: Global, elf: &Elf, kept: &Record) -> Result<Made, OutOfMemory>
     requires thin { IsOfThin elf.now }
-    requires plausible { IsPlausible decode_first (code_in (loaded elf.now).loads) (loaded elf.now).entry (kept_in kept.now) }
+    requires plausible { CanRewrite decode_first (loaded elf.now) (kept_in kept.now) }
     ensures keeps { IfOk result (λ m. Keeps decode_first elf.now.bytes m.bytes (kept_in kept.now)) }
     ensures inert { IfOk result (λ m. Inert decode_first elf.now.bytes m.bytes (kept_in kept.now)) }
-    ensures report { IfOk result (λ m. m.report ≡ report_text (added decode_first (loaded elf.now) (kept_in kept.now)).scratch (length kept.now.edges) (length kept.now.nodes) 0 0) }
+    ensures report { IfOk result (λ m. m.report ≡
+        report_text (added decode_first (loaded elf.now) (kept_in kept.now)).scratch
+        (length kept.now.edges) (length kept.now.nodes) 0 0) }
 {
     let New { bytes, base } = rewrite(alloc, elf, kept)?;
     let edges = kept.edges.len() as u64;

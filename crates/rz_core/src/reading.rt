@@ -2,7 +2,8 @@
 
 ghost use Rattle.std.specs.Prelude.{◌≡◌, ◌<◌, slice_index, ◌≤◌, ℕ, IfOk, IfErr};
 ghost use Rattle.rz_outside.specs.StoreAnswers.{SameFiles, ReadsFirst};
-ghost use Rattle.rz_core.specs.Causes.{ReadRefusal};
+ghost use Rattle.rz_outside.specs.StoreCalls.{store_calls};
+ghost use Rattle.rz_core.specs.Reading.{ReadRefusal};
 
 use crate::status::Status;
 use rz_num::{Bytes, Text};
@@ -21,7 +22,7 @@ pub fn read<S: Store>(alloc: Global, store: &mut S, name: &Text, max: u64) -> Re
     ensures kept { SameFiles (S.files store.old) (S.files store.new) }
     ensures count { S.faults store.old ≤ S.faults store.new }
     ensures read { IfOk result (ReadsFirst (S.told store.old) (S.files store.old) name.now max) }
-    ensures cause { IfErr result (ReadRefusal name.now (record { told = S.told store.old; old = S.files store.old; new = S.files store.new; before = S.faults store.old; now = S.faults store.new; failed = S.failed_name store.new })) }
+    ensures cause { IfErr result (ReadRefusal name.now (store_calls S.Store store.old store.new)) }
 {
     let Ok(file) = Text::from_slice(alloc, name.as_slice()) else {
         return Err(Status::OutOfMemory);

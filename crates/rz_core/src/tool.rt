@@ -1,12 +1,15 @@
 //! The top call: a command line over a store of files and a sink of text.
 
-ghost use Rattle.std.specs.Prelude.{◌≡◌, ◌≤◌, Some, None};
+ghost use Rattle.std.specs.Prelude.{◌≡◌, ◌≤◌, ◌↔◌, IsSome, Some};
 ghost use Rattle.rz_outside.specs.StoreAnswers.{SameFiles};
-ghost use Rattle.rz_core.specs.Words.{form_of};
+ghost use Rattle.rz_outside.specs.StoreCalls.{store_calls};
+ghost use Rattle.rz_outside.specs.SinkCalls.{sink_calls};
+ghost use Rattle.rz_core.specs.Words.{Debloating, Checking};
 ghost use Rattle.rz_core.specs.Commands.{words_of, check_words_of};
-ghost use Rattle.rz_core.specs.Exact.{AnswersExactly};
+ghost use Rattle.rz_core.specs.Causes.{CauseOf, HasCause, FilesAfterDebloat, FilesAfter, SinkAfterForm, SinkAfter};
+ghost use Rattle.rz_core.specs.Exact.{IsExact};
 ghost use Rattle.rz_core.specs.Headline.{Headline};
-ghost use Rattle.rz_core.specs.Causes.{CauseOf, CheckCause, HasCause, FilesAfterForm, FilesAfter, SinkAfter, SinkAfterForm, SinkAfterCheck, PutAfter, RefusedAfter};
+ghost use Rattle.rz_core.specs.Putting.{PutAfter, RefusedAfter};
 
 use crate::check::check;
 use crate::debloat::debloat;
@@ -19,8 +22,9 @@ use std::alloc::Global;
 
 // Puts a command's text.
 fn put_text<K: Sink>(out: &mut K, text: &Bytes) -> Status
+    ensures telling { IsSome (K.written out.new) ↔ IsSome (K.written out.old) }
     ensures count { K.faults out.old ≤ K.faults out.new }
-    ensures after { PutAfter text.now (record { old = K.written out.old; new = K.written out.new; before = K.faults out.old; now = K.faults out.new }) result }
+    ensures after { PutAfter text.now (sink_calls K.Sink out.old out.new) result }
 {
     match out.put(text) {
         Ok(()) => Status::Ok,
@@ -31,8 +35,9 @@ fn put_text<K: Sink>(out: &mut K, text: &Bytes) -> Status
 
 // Puts a refusal's text. A failing put doesn't change the status.
 fn refuse<K: Sink>(alloc: Global, out: &mut K, status: Status) -> Status
+    ensures telling { IsSome (K.written out.new) ↔ IsSome (K.written out.old) }
     ensures count { K.faults out.old ≤ K.faults out.new }
-    ensures after { RefusedAfter status (record { old = K.written out.old; new = K.written out.new; before = K.faults out.old; now = K.faults out.new }) result }
+    ensures after { RefusedAfter status (sink_calls K.Sink out.old out.new) result }
 {
     if matches!(&status, Status::OutOfMemory) {
         return status;
@@ -59,10 +64,13 @@ fn run_debloat<S: Store, K: Sink>(
     requires { 1 ≤ d.now.limit }
     ensures telling { S.told store.new ≡ S.told store.old }
     ensures store_count { S.faults store.old ≤ S.faults store.new }
+    ensures sink_telling { IsSome (K.written out.new) ↔ IsSome (K.written out.old) }
     ensures sink_count { K.faults out.old ≤ K.faults out.new }
-    ensures cause { CauseOf (words_of d.now) (record { told = S.told store.old; old = S.files store.old; new = S.files store.new; before = S.faults store.old; now = S.faults store.new; failed = S.failed_name store.new }) (record { old = K.written out.old; new = K.written out.new; before = K.faults out.old; now = K.faults out.new }) result }
-    ensures files { FilesAfterForm (words_of d.now) (record { told = S.told store.old; old = S.files store.old; new = S.files store.new; before = S.faults store.old; now = S.faults store.new; failed = S.failed_name store.new }) result }
-    ensures sink { SinkAfterForm (words_of d.now) (record { told = S.told store.old; old = S.files store.old; new = S.files store.new; before = S.faults store.old; now = S.faults store.new; failed = S.failed_name store.new }) (record { old = K.written out.old; new = K.written out.new; before = K.faults out.old; now = K.faults out.new }) result }
+    ensures cause { CauseOf (Some (Debloating (words_of d.now)))
+        (store_calls S.Store store.old store.new) (sink_calls K.Sink out.old out.new) result }
+    ensures files { FilesAfterDebloat (words_of d.now) (store_calls S.Store store.old store.new) result }
+    ensures sink { SinkAfterForm (Some (Debloating (words_of d.now)))
+        (store_calls S.Store store.old store.new) (sink_calls K.Sink out.old out.new) result }
 {
     match debloat(alloc, d, store) {
         Ok(report) => put_text(out, &report),
@@ -74,10 +82,13 @@ fn run_debloat<S: Store, K: Sink>(
 fn run_check<S: Store, K: Sink>(alloc: Global, c: &Check<'_>, store: &mut S, out: &mut K) -> Status
     ensures telling { S.told store.new ≡ S.told store.old }
     ensures store_count { S.faults store.old ≤ S.faults store.new }
+    ensures sink_telling { IsSome (K.written out.new) ↔ IsSome (K.written out.old) }
     ensures sink_count { K.faults out.old ≤ K.faults out.new }
-    ensures cause { CheckCause (check_words_of c.now) (record { told = S.told store.old; old = S.files store.old; new = S.files store.new; before = S.faults store.old; now = S.faults store.new; failed = S.failed_name store.new }) (record { old = K.written out.old; new = K.written out.new; before = K.faults out.old; now = K.faults out.new }) result }
+    ensures cause { CauseOf (Some (Checking (check_words_of c.now)))
+        (store_calls S.Store store.old store.new) (sink_calls K.Sink out.old out.new) result }
     ensures files { SameFiles (S.files store.old) (S.files store.new) }
-    ensures sink { SinkAfterCheck (check_words_of c.now) (record { told = S.told store.old; old = S.files store.old; new = S.files store.new; before = S.faults store.old; now = S.faults store.new; failed = S.failed_name store.new }) (record { old = K.written out.old; new = K.written out.new; before = K.faults out.old; now = K.faults out.new }) result }
+    ensures sink { SinkAfterForm (Some (Checking (check_words_of c.now)))
+        (store_calls S.Store store.old store.new) (sink_calls K.Sink out.old out.new) result }
 {
     match check(alloc, c, store) {
         Ok(text) => put_text(out, &text),
@@ -94,12 +105,16 @@ pub fn run_tool<S: Store, K: Sink>(
 ) -> Status
     ensures telling { S.told store.new ≡ S.told store.old }
     ensures store_count { S.faults store.old ≤ S.faults store.new }
+    ensures sink_telling { IsSome (K.written out.new) ↔ IsSome (K.written out.old) }
     ensures sink_count { K.faults out.old ≤ K.faults out.new }
-    ensures headline { Headline (form_of words.now.items) (record { told = S.told store.old; old = S.files store.old; new = S.files store.new; before = S.faults store.old; now = S.faults store.new; failed = S.failed_name store.new }) result }
-    ensures cause { HasCause (form_of words.now.items) (record { told = S.told store.old; old = S.files store.old; new = S.files store.new; before = S.faults store.old; now = S.faults store.new; failed = S.failed_name store.new }) (record { old = K.written out.old; new = K.written out.new; before = K.faults out.old; now = K.faults out.new }) result }
-    ensures exact { AnswersExactly (form_of words.now.items) (record { told = S.told store.old; old = S.files store.old; new = S.files store.new; before = S.faults store.old; now = S.faults store.new; failed = S.failed_name store.new }) (record { old = K.written out.old; new = K.written out.new; before = K.faults out.old; now = K.faults out.new }) result }
-    ensures files { FilesAfter (form_of words.now.items) (record { told = S.told store.old; old = S.files store.old; new = S.files store.new; before = S.faults store.old; now = S.faults store.new; failed = S.failed_name store.new }) result }
-    ensures sink { SinkAfter (form_of words.now.items) (record { told = S.told store.old; old = S.files store.old; new = S.files store.new; before = S.faults store.old; now = S.faults store.new; failed = S.failed_name store.new }) (record { old = K.written out.old; new = K.written out.new; before = K.faults out.old; now = K.faults out.new }) result }
+    ensures headline { Headline words.now.items (store_calls S.Store store.old store.new) result }
+    ensures cause { HasCause words.now.items
+        (store_calls S.Store store.old store.new) (sink_calls K.Sink out.old out.new) result }
+    ensures exact { IsExact words.now.items
+        (store_calls S.Store store.old store.new) (sink_calls K.Sink out.old out.new) result }
+    ensures files { FilesAfter words.now.items (store_calls S.Store store.old store.new) result }
+    ensures sink { SinkAfter words.now.items
+        (store_calls S.Store store.old store.new) (sink_calls K.Sink out.old out.new) result }
 {
     match read_form(words) {
         None => refuse(alloc, out, Status::Usage),

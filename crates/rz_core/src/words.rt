@@ -32,7 +32,8 @@ pub enum Form<'a> {
 
 /// The form that the words have, if any.
 pub fn read_form(words: &Vec<Text>) -> Option<Form<'_>>
-    ensures form { MatchOption result (form_of words.now.items ≡ None) (λ f. form_of words.now.items ≡ Some (form_words_of f)) }
+    ensures form { MatchOption result (form_of words.now.items ≡ None)
+        (λ f. form_of words.now.items ≡ Some (form_words_of f)) }
     ensures some { IfSome result HasSteps }
 {
     if let Some(debloat) = debloat_form(words) {
@@ -45,7 +46,8 @@ pub fn read_form(words: &Vec<Text>) -> Option<Form<'_>>
 }
 
 fn check_form(words: &Vec<Text>) -> Option<Check<'_>>
-    ensures { MatchOption result (check_of words.now.items ≡ None) (λ c. check_of words.now.items ≡ Some (check_words_of c)) }
+    ensures { MatchOption result (check_of words.now.items ≡ None)
+        (λ c. check_of words.now.items ≡ Some (check_words_of c)) }
 {
     match words.as_slice() {
         [command, exe] if is_check(command, exe) => Some(Check { exe }),
@@ -60,7 +62,8 @@ fn is_check(command: &Text, exe: &Text) -> bool
 }
 
 fn debloat_form(words: &Vec<Text>) -> Option<Debloat<'_>>
-    ensures form { MatchOption result (debloat_of words.now.items ≡ None) (λ d. debloat_of words.now.items ≡ Some (words_of d)) }
+    ensures form { MatchOption result (debloat_of words.now.items ≡ None)
+        (λ d. debloat_of words.now.items ≡ Some (words_of d)) }
     ensures some { IfSome result (λ d. 1 ≤ d.limit) }
 {
     match words.as_slice() {

@@ -20,6 +20,10 @@ use Rattle.rz_machine.specs.Pace.{Paced}
 use Rattle.rz_elf.specs.PlainImage.{IsPlainImage}
 use Rattle.rz_rewrite.specs.Fragments.{fragments, place_in, address_of, fragments_bytes}
 
+-- a kept set that a new file can be written for: one that could be left by traces of the image
+abbrev pub CanRewrite : Decoder → Image → Kept → Type 0
+CanRewrite dec x kept = IsPlausible dec (code_in x.loads) x.entry kept
+
 -- the fragments of the kept nodes
 abbrev pub fragments_of : Decoder → Image → Kept → List Fragment
 fragments_of dec x kept = fragments dec (code_in x.loads) kept.edges (sorted kept.nodes)
@@ -53,13 +57,13 @@ pub record IsRewritten (dec : Decoder) (x : Image) (kept : Kept) (parts : Parts)
 -- each file that is so rewritten keeps each run of the original
 abbrev pub RewrittenKeeps : Decoder → Type 0
 RewrittenKeeps dec =
-    (x : Image) (kept : Kept) (parts : Parts) (entry : ℕ) → IsPlausible dec (code_in x.loads) x.entry kept → IsPlainImage x → HasRoom dec x kept → IsRewritten dec x kept parts entry → (input : Input)
+    (x : Image) (kept : Kept) (parts : Parts) (entry : ℕ) → CanRewrite dec x kept → IsPlainImage x → HasRoom dec x kept → IsRewritten dec x kept parts entry → (input : Input)
     → KeepsRun dec kept.edges (layout_of dec x kept) (start x input) (start (new_image x parts entry) input)
 
 -- and takes one to `bound` steps for each step of it
 abbrev pub RewrittenPaced : Decoder → ℕ → Type 0
 RewrittenPaced dec bound =
-    (x : Image) (kept : Kept) (parts : Parts) (entry : ℕ) → IsPlausible dec (code_in x.loads) x.entry kept → IsPlainImage x → HasRoom dec x kept → IsRewritten dec x kept parts entry → (input : Input)
+    (x : Image) (kept : Kept) (parts : Parts) (entry : ℕ) → CanRewrite dec x kept → IsPlainImage x → HasRoom dec x kept → IsRewritten dec x kept parts entry → (input : Input)
     → Paced dec kept.edges (layout_of dec x kept) (λ a. bound) (start x input) (start (new_image x parts entry) input)
 
 -- fragments take at most 32 bytes a node, wherever they stand and whatever their labels name
@@ -76,11 +80,11 @@ PlacesInCode dec =
 -- a file that is written so for a thin file of bytes keeps its runs, and is inert besides
 abbrev pub ThinFilesKept : Decoder → Type 0
 ThinFilesKept dec =
-    (x w : List ℕ) (kept : Kept) (parts : Parts) (entry : ℕ) → IsThin x → AllByRecursion (λ b. b < 256) x → IsPlausible dec (code_in (image_of x).loads) (image_of x).entry kept
+    (x w : List ℕ) (kept : Kept) (parts : Parts) (entry : ℕ) → IsThin x → AllByRecursion (λ b. b < 256) x → CanRewrite dec (image_of x) kept
     → IsRewritten dec (image_of x) kept parts entry → w ≡ written_file x parts entry → Keeps dec x w kept × Inert dec x w kept
 
 -- a thin file has 1 to 65,536 kept nodes, and room below its code for their parts
 abbrev pub ThinFilesHaveRoom : Decoder → Type 0
 ThinFilesHaveRoom dec =
-    (x : List ℕ) (kept : Kept) → IsThin x → AllByRecursion (λ b. b < 256) x → IsPlausible dec (code_in (image_of x).loads) (image_of x).entry kept
+    (x : List ℕ) (kept : Kept) → IsThin x → AllByRecursion (λ b. b < 256) x → CanRewrite dec (image_of x) kept
     → (1 ≤ node_count kept) × (node_count kept ≤ 65536) × HasRoom dec (image_of x) kept

@@ -10,10 +10,9 @@ ghost use Rattle.rz_machine.specs.Keeps.{Keeps};
 ghost use Rattle.rz_elf.specs.Loaded.{loaded};
 ghost use Rattle.rz_rewrite.specs.ThinElf.{thin_elf};
 ghost use Rattle.rz_elf.specs.PlainImage.{IsPlainImage};
-ghost use Rattle.rz_machine.specs.Nodes.{code_in, IsPlausible};
 ghost use Rattle.rz_machine.specs.Kept.{sorted};
 ghost use Rattle.rz_machine.specs.Traced.{kept_in};
-ghost use Rattle.rz_rewrite.specs.Rewritten.{HasRoom, IsRewritten, fragments_of as frags_of, place_of};
+ghost use Rattle.rz_rewrite.specs.Rewritten.{CanRewrite, HasRoom, IsRewritten, fragments_of as frags_of, place_of};
 ghost use Rattle.rz_rewrite.specs.Thin.{IsThin};
 ghost use Rattle.rz_elf.specs.WrittenFile.{written_file};
 ghost use Rattle.rz_machine.specs.WrittenFile.{Inert};
@@ -48,7 +47,7 @@ pub struct New {
 pub fn rewrite(alloc: Global, elf: &Elf, kept: &Record) -> Result<New, OutOfMemory>
     requires thin { IsThin elf.now.bytes }
     requires read { elf.now ≡ thin_elf elf.now.bytes }
-    requires plausible { IsPlausible decode_first (code_in (loaded elf.now).loads) (loaded elf.now).entry (kept_in kept.now) }
+    requires plausible { CanRewrite decode_first (loaded elf.now) (kept_in kept.now) }
     ensures file { IfOk result (λ new. new.bytes ≡ written_file elf.now.bytes (new_parts_of decode_first (loaded elf.now) (kept_in kept.now)) (place_of decode_first (loaded elf.now) (kept_in kept.now) elf.now.entry)) }
     ensures keeps { IfOk result (λ new. Keeps decode_first elf.now.bytes new.bytes (kept_in kept.now)) }
     ensures inert { IfOk result (λ new. Inert decode_first elf.now.bytes new.bytes (kept_in kept.now)) }
@@ -73,7 +72,7 @@ pub struct NewParts {
 /// The parts of the new file of what is kept. It refuses for want of memory alone.
 pub fn new_parts(alloc: Global, elf: &Elf, kept: &Record) -> Result<NewParts, OutOfMemory>
     requires plain { IsPlainImage (loaded elf.now) }
-    requires plausible { IsPlausible decode_first (code_in (loaded elf.now).loads) (loaded elf.now).entry (kept_in kept.now) }
+    requires plausible { CanRewrite decode_first (loaded elf.now) (kept_in kept.now) }
     requires room { HasRoom decode_first (loaded elf.now) (kept_in kept.now) }
     ensures parts { IfOk result (λ new. new.parts ≡ new_parts_of decode_first (loaded elf.now) (kept_in kept.now)) }
     ensures entry { IfOk result (λ new. new.entry ≡ place_of decode_first (loaded elf.now) (kept_in kept.now) elf.now.entry) }
@@ -93,7 +92,7 @@ pub fn new_parts(alloc: Global, elf: &Elf, kept: &Record) -> Result<NewParts, Ou
 // Where the parts of what is kept lie, which has this many nodes.
 fn new_range(elf: &Elf, kept: &Record, count: u64) -> AddedRange
     requires plain { IsPlainImage (loaded elf.now) }
-    requires plausible { IsPlausible decode_first (code_in (loaded elf.now).loads) (loaded elf.now).entry (kept_in kept.now) }
+    requires plausible { CanRewrite decode_first (loaded elf.now) (kept_in kept.now) }
     requires room { HasRoom decode_first (loaded elf.now) (kept_in kept.now) }
     requires count { count ≡ node_count (kept_in kept.now) }
     ensures { range_of result ≡ added decode_first (loaded elf.now) (kept_in kept.now) }
@@ -110,7 +109,7 @@ fn kept_fragments(
     nodes: &[u64],
 ) -> Result<Fragments, OutOfMemory>
     requires plain { IsPlainImage (loaded elf.now) }
-    requires plausible { IsPlausible decode_first (code_in (loaded elf.now).loads) (loaded elf.now).entry (kept_in kept.now) }
+    requires plausible { CanRewrite decode_first (loaded elf.now) (kept_in kept.now) }
     requires room { HasRoom decode_first (loaded elf.now) (kept_in kept.now) }
     requires nodes { nodes.now ≡ sorted kept.now.nodes }
     ensures value { IfOk result (λ list. list ≡ frags_of decode_first (loaded elf.now) (kept_in kept.now)) }

@@ -1,6 +1,8 @@
-use Rattle.std.proofs.Common.{◌≡◌, sym, ap, ◌∙◌, subst, Some}
+use Rattle.std.proofs.Common.{◌≡◌, sym, ap, ◌∙◌, subst, inr, Some}
+use Rattle.rz_elf.specs.Elf.{fault_of}
+use Rattle.rz_core.specs.declared.status.Status.TheVariants as status
 use Rattle.rz_elf.specs.Loaded.{ElfFile, IsCause}
-use Rattle.rz_core.proofs.ReadLaws.{accepted_whole, fault_whole}
+use Rattle.rz_core.proofs.ReadLaws.{accepted_whole, fault_whole, of_read}
 use Rattle.rz_core.proofs.check.read_accepted.Goals as goal
 
 pub returns-in-Ok-read_elf-clause-read : goal.returns-in-Ok-read_elf-clause-read
@@ -11,7 +13,12 @@ returns-in-Ok-read_elf-clause-read g c = λ told.
 
 pub returns-in-Err-Fault-clause-cause : goal.returns-in-Err-Fault-clause-cause
 returns-in-Err-Fault-clause-cause g c =
-    let why = subst (IsCause c.in_ok-bytes.bytes) c.in-Err-Fault.field-0-is c.in-Err-Fault.ensures.fault in (
-      c.in-Ok.ensures ∙ c.as_slice.ensures,
-      λ told. (let r = c.in_ok-bytes.ensures.read told in (r.0, r.1, fault_whole r.0 c.in_ok-bytes.bytes (Some c.in-Err-Fault.fault) r.2 why)),
-    )
+    let f = c.in-Err-Fault.fault in
+    let bytes = c.in_ok-bytes.bytes in
+    let why = subst (IsCause bytes) c.in-Err-Fault.field-0-is c.in-Err-Fault.ensures.fault in
+    let store = c.args.store.now in
+    let r =
+    of_read (g.S.Store.told store) (g.S.Store.files store) c.args.name.now 67108865 bytes (λ x. fault_of x ≡ Some f) c.in_ok-bytes.ensures.read why
+    (λ whole e. fault_whole whole bytes (Some f) e why)
+    in
+    inr (r.0, r.1, (f, ap (λ n. status.Refused n f) (c.in-Ok.ensures ∙ c.as_slice.ensures), r.2))

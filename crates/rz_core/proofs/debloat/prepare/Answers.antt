@@ -1,26 +1,65 @@
-use Rattle.std.proofs.Common.{IsTrue, refl, subst, sym, ◌∙◌}
-use Rattle.rz_core.specs.Causes.{StoreCalls}
+use Rattle.std.proofs.Common.{inl, inr, refl, subst}
+use Rattle.std.specs.Prelude.{[], ◌∷◌}
+use Rattle.rz_outside.specs.StoreCalls.{StoreCalls, store_calls}
 use Rattle.rz_core.specs.Commands.{words_of}
-use Rattle.rz_core.proofs.CauseLaws.{input_refused}
+use Rattle.rz_core.specs.Reading.{wanted, InputNumber}
+use Rattle.rz_core.specs.Making.{IsMakeRefusal, MakeRefused}
+use Rattle.rz_core.proofs.CauseLaws.{handed_on, later_held, later_refusal}
 use Rattle.rz_core.proofs.debloat.prepare.Goals as goal
 
-pub returns-in-Err-clause-cause : goal.returns-in-Err-clause-cause
-returns-in-Err-clause-cause g c =
-    let first = c.args.store.now in
-    let middle = c.read_executable.new.store in
-    let last = c.read_input.new.store in
-    let s : StoreCalls = record { told = g.S.Store.told first; old = g.S.Store.files first; new = g.S.Store.files last; before = g.S.Store.faults first; now = g.S.Store.faults last; failed = g.S.Store.failed_name last } in
-    let t : StoreCalls = record { told = g.S.Store.told middle; old = g.S.Store.files middle; new = g.S.Store.files last; before = g.S.Store.faults middle; now = g.S.Store.faults last; failed = g.S.Store.failed_name last } in
+pub returns-in_err-elf-clause-cause : goal.returns-in_err-elf-clause-cause
+returns-in_err-elf-clause-cause g c =
+    let s : StoreCalls = store_calls g.S.Store c.args.store.now c.read_executable.new.store in
+    handed_on c.from_residual.result c.in_err-elf.field-0.0 (IsMakeRefusal (words_of c.args.d.now) s) c.from_residual.ensures.1 (inl c.in_err-elf.ensures.cause)
+
+pub returns-in_err-input-clause-cause : goal.returns-in_err-input-clause-cause
+returns-in_err-input-clause-cause g c =
+    let s : StoreCalls = store_calls g.S.Store c.args.store.now c.read_input.new.store in
+    let t : StoreCalls = store_calls g.S.Store c.read_executable.new.store c.read_input.new.store in
     let elf = c.in_ok-elf.ensures in
-    input_refused (words_of c.args.d.now) s t c.in_ok-elf.elf.bytes c.in-Err.status elf.telling elf.kept elf.count refl refl (λ told. record { there = elf.read told; thin = elf.thin.thin }) c.in-Err.ensures.cause
+    let st = c.in_err-input.field-0.0 in
+    let refusal = later_refusal (wanted c.args.d.now.input.now (InputNumber 1)) s t st elf.telling elf.kept elf.count refl refl c.in_err-input.ensures.cause in
+    handed_on c.from_residual-in_err-input.result st (IsMakeRefusal (words_of c.args.d.now) s) c.from_residual-in_err-input.ensures.1 (inr ((c.in_ok-elf.elf.bytes, elf.read, elf.thin.thin), inl refusal))
+
+pub returns-in-Err-LeftCode-clause-cause : goal.returns-in-Err-LeftCode-clause-cause
+returns-in-Err-LeftCode-clause-cause g c =
+    let s : StoreCalls = store_calls g.S.Store c.args.store.now c.read_input.new.store in
+    let t : StoreCalls = store_calls g.S.Store c.read_executable.new.store c.read_input.new.store in
+    let elf = c.in_ok-elf.ensures in
+    let x = c.in_ok-elf.elf.bytes in
+    let input = c.in_ok-input.input in
+    let i = c.in_ok-input.ensures.read in
+    let held = later_held c.args.d.now.input.now i.0 s t elf.telling elf.kept i.1 in
+    let leaves = subst (MakeRefused c.args.d.now.limit x input) c.in-Err-LeftCode.field-0-is c.in-Err-LeftCode.ensures.err in
+    inr (
+      (x, elf.read, elf.thin.thin),
+      inr (
+        (i.0, held, (input, i.2)),
+        (
+          x,
+          input ∷ [],
+          record { exe = elf.read; thin = elf.thin.thin; inputs_are = ((i.0, held, i.2), tt) },
+          inl (refl, leaves),
+        ),
+      ),
+    )
 
 pub returns-in-Ok-clause-made : goal.returns-in-Ok-clause-made
-returns-in-Ok-clause-made g c = λ told.
+returns-in-Ok-clause-made g c =
+    let s : StoreCalls = store_calls g.S.Store c.args.store.now c.read_input.new.store in
+    let t : StoreCalls = store_calls g.S.Store c.read_executable.new.store c.read_input.new.store in
     let elf = c.in_ok-elf.ensures in
-    let still = subst IsTrue (sym elf.telling) told in
+    let i = c.in_ok-input.ensures.read in
     record {
       x = c.in_ok-elf.elf.bytes;
-      read = record { exe = record { there = elf.read told; thin = elf.thin.thin }; input = sym (elf.kept c.args.d.now.input.now) ∙ c.in_default.ensures.read still };
-      debloated = c.in-Ok.ensures.made;
+      inputs = c.in_ok-input.input ∷ [];
+      new = record {
+        read = record {
+          exe = elf.read;
+          thin = elf.thin.thin;
+          inputs_are = ((i.0, later_held c.args.d.now.input.now i.0 s t elf.telling elf.kept i.1, i.2), tt);
+        };
+        debloated = c.in-Ok.ensures.made;
+      };
       report_is = c.in-Ok.ensures.report;
     }

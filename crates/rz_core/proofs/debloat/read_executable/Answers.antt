@@ -1,7 +1,8 @@
-use Rattle.std.proofs.Common.{◌≡◌, sym, ap, ◌∙◌, subst, Some}
-use Rattle.rz_rewrite.specs.ThinFault.{IsThinCause}
+use Rattle.std.proofs.Common.{sym, ap, ◌∙◌, subst, inr, Some}
+use Rattle.rz_rewrite.specs.ThinFault.{IsThinCause, IsThinFault}
+use Rattle.rz_core.specs.declared.status.Status.TheVariants as status
 use Rattle.rz_elf.specs.declared.elf.Elf.{Elf}
-use Rattle.rz_core.proofs.ReadLaws.{thin_whole, thin_fault_whole}
+use Rattle.rz_core.proofs.ReadLaws.{thin_whole, thin_fault_whole, of_read}
 use Rattle.rz_core.proofs.MadeLaws.{of_thin}
 use Rattle.rz_core.proofs.debloat.read_executable.Goals as goal
 
@@ -13,10 +14,15 @@ returns-in-Ok-read_thin-clause-read g c = λ told.
 
 pub returns-in-Err-Fault-clause-cause : goal.returns-in-Err-Fault-clause-cause
 returns-in-Err-Fault-clause-cause g c =
-    let why = subst (IsThinCause c.in_ok-bytes.bytes) c.in-Err-Fault.field-0-is c.in-Err-Fault.ensures.fault in (
-      c.in-Ok.ensures ∙ c.as_slice.ensures,
-      λ told. (let r = c.in_ok-bytes.ensures.read told in (r.0, r.1, thin_fault_whole r.0 c.in_ok-bytes.bytes c.in-Err-Fault.fault r.2 why)),
-    )
+    let f = c.in-Err-Fault.fault in
+    let bytes = c.in_ok-bytes.bytes in
+    let why = subst (IsThinCause bytes) c.in-Err-Fault.field-0-is c.in-Err-Fault.ensures.fault in
+    let store = c.args.store.now in
+    let r =
+    of_read (g.S.Store.told store) (g.S.Store.files store) c.args.name.now 67108865 bytes (λ x. IsThinFault x f) c.in_ok-bytes.ensures.read why
+    (λ whole e. thin_fault_whole whole bytes f e why)
+    in
+    inr (r.0, r.1, (f, ap (λ n. status.Refused n f) (c.in-Ok.ensures ∙ c.as_slice.ensures), r.2))
 
 pub returns-in-Ok-read_thin-clause-thin : goal.returns-in-Ok-read_thin-clause-thin
 returns-in-Ok-read_thin-clause-thin g c =

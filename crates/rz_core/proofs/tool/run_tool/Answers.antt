@@ -1,32 +1,66 @@
 use Rattle.std.proofs.Common.{ap, subst, sym, ◌∙◌, Some}
+use Rattle.rz_outside.specs.StoreCalls.{StoreCalls, store_calls}
+use Rattle.rz_outside.specs.SinkCalls.{SinkCalls, sink_calls}
+use Rattle.rz_core.specs.Words.{Debloating, Checking}
 use Rattle.rz_core.specs.Commands.{words_of, check_words_of, form_words_of}
-use Rattle.rz_core.specs.Causes.{StoreCalls, SinkCalls}
-use Rattle.rz_core.specs.Exact.{AnswersExactly}
-use Rattle.rz_core.specs.Headline.{Headline}
-use Rattle.rz_core.proofs.ExactLaws.{answers_exactly, headline}
-use Rattle.rz_core.proofs.CheckLaws.{check_exactly}
+use Rattle.rz_core.specs.Causes.{CauseOf, SinkAfterForm}
+use Rattle.rz_core.specs.Exact.{IsExactOf}
+use Rattle.rz_core.specs.Headline.{HeadlineOf}
+use Rattle.rz_core.proofs.ExactLaws.{exactly, headline}
 use Rattle.rz_core.proofs.tool.run_tool.Goals as goal
-
-pub returns-in-Some-Debloat-clause-exact : goal.returns-in-Some-Debloat-clause-exact
-returns-in-Some-Debloat-clause-exact g c =
-    let before = c.args.store.now in
-    let later = c.run_debloat.new.store in
-    let s : StoreCalls = record { told = g.S.Store.told before; old = g.S.Store.files before; new = g.S.Store.files later; before = g.S.Store.faults before; now = g.S.Store.faults later; failed = g.S.Store.failed_name later } in
-    let k : SinkCalls = record { old = g.K.Sink.written c.args.out.now; new = g.K.Sink.written c.run_debloat.new.out; before = g.K.Sink.faults c.args.out.now; now = g.K.Sink.faults c.run_debloat.new.out } in
-    subst (λ f. AnswersExactly f s k c.run_debloat.result) (sym (c.in-Some-Debloat.ensures.form ∙ ap (λ f. Some (form_words_of f)) c.in-Some-Debloat.field-0-is)) (answers_exactly (words_of c.in-Some-Debloat.d) s k c.run_debloat.result c.run_debloat.ensures.cause)
 
 pub returns-in-Some-Debloat-clause-headline : goal.returns-in-Some-Debloat-clause-headline
 returns-in-Some-Debloat-clause-headline g c =
-    let before = c.args.store.now in
-    let later = c.run_debloat.new.store in
-    let s : StoreCalls = record { told = g.S.Store.told before; old = g.S.Store.files before; new = g.S.Store.files later; before = g.S.Store.faults before; now = g.S.Store.faults later; failed = g.S.Store.failed_name later } in
-    let k : SinkCalls = record { old = g.K.Sink.written c.args.out.now; new = g.K.Sink.written c.run_debloat.new.out; before = g.K.Sink.faults c.args.out.now; now = g.K.Sink.faults c.run_debloat.new.out } in
-    subst (λ f. Headline f s c.run_debloat.result) (sym (c.in-Some-Debloat.ensures.form ∙ ap (λ f. Some (form_words_of f)) c.in-Some-Debloat.field-0-is)) (headline (words_of c.in-Some-Debloat.d) s k c.run_debloat.result c.run_debloat.ensures.cause)
+    let s : StoreCalls = store_calls g.S.Store c.args.store.now c.run_debloat.new.store in
+    let k : SinkCalls = sink_calls g.K.Sink c.args.out.now c.run_debloat.new.out in
+    let answer = c.run_debloat.result in
+    let is = c.in-Some-Debloat.ensures.form ∙ ap (λ f. Some (form_words_of f)) c.in-Some-Debloat.field-0-is in
+    subst (λ f. HeadlineOf f s answer) (sym is) (headline (Debloating (words_of c.in-Some-Debloat.d)) s k answer c.run_debloat.ensures.cause)
+
+pub returns-in-Some-Debloat-clause-cause : goal.returns-in-Some-Debloat-clause-cause
+returns-in-Some-Debloat-clause-cause g c =
+    let s : StoreCalls = store_calls g.S.Store c.args.store.now c.run_debloat.new.store in
+    let k : SinkCalls = sink_calls g.K.Sink c.args.out.now c.run_debloat.new.out in
+    let answer = c.run_debloat.result in
+    let is = c.in-Some-Debloat.ensures.form ∙ ap (λ f. Some (form_words_of f)) c.in-Some-Debloat.field-0-is in
+    subst (λ f. CauseOf f s k answer) (sym is) c.run_debloat.ensures.cause
+
+pub returns-in-Some-Debloat-clause-exact : goal.returns-in-Some-Debloat-clause-exact
+returns-in-Some-Debloat-clause-exact g c =
+    let s : StoreCalls = store_calls g.S.Store c.args.store.now c.run_debloat.new.store in
+    let k : SinkCalls = sink_calls g.K.Sink c.args.out.now c.run_debloat.new.out in
+    let answer = c.run_debloat.result in
+    let is = c.in-Some-Debloat.ensures.form ∙ ap (λ f. Some (form_words_of f)) c.in-Some-Debloat.field-0-is in
+    subst (λ f. IsExactOf f s k answer) (sym is) (exactly (Debloating (words_of c.in-Some-Debloat.d)) s k answer c.run_debloat.ensures.cause)
+
+pub returns-in-Some-Debloat-clause-sink : goal.returns-in-Some-Debloat-clause-sink
+returns-in-Some-Debloat-clause-sink g c =
+    let s : StoreCalls = store_calls g.S.Store c.args.store.now c.run_debloat.new.store in
+    let k : SinkCalls = sink_calls g.K.Sink c.args.out.now c.run_debloat.new.out in
+    let answer = c.run_debloat.result in
+    let is = c.in-Some-Debloat.ensures.form ∙ ap (λ f. Some (form_words_of f)) c.in-Some-Debloat.field-0-is in
+    subst (λ f. SinkAfterForm f s k answer) (sym is) c.run_debloat.ensures.sink
+
+pub returns-in-Some-Check-clause-cause : goal.returns-in-Some-Check-clause-cause
+returns-in-Some-Check-clause-cause g c =
+    let s : StoreCalls = store_calls g.S.Store c.args.store.now c.run_check.new.store in
+    let k : SinkCalls = sink_calls g.K.Sink c.args.out.now c.run_check.new.out in
+    let answer = c.run_check.result in
+    let is = c.in-Some-Check.ensures.form ∙ ap (λ f. Some (form_words_of f)) c.in-Some-Check.field-0-is in
+    subst (λ f. CauseOf f s k answer) (sym is) c.run_check.ensures.cause
 
 pub returns-in-Some-Check-clause-exact : goal.returns-in-Some-Check-clause-exact
 returns-in-Some-Check-clause-exact g c =
-    let before = c.args.store.now in
-    let later = c.run_check.new.store in
-    let s : StoreCalls = record { told = g.S.Store.told before; old = g.S.Store.files before; new = g.S.Store.files later; before = g.S.Store.faults before; now = g.S.Store.faults later; failed = g.S.Store.failed_name later } in
-    let k : SinkCalls = record { old = g.K.Sink.written c.args.out.now; new = g.K.Sink.written c.run_check.new.out; before = g.K.Sink.faults c.args.out.now; now = g.K.Sink.faults c.run_check.new.out } in
-    subst (λ f. AnswersExactly f s k c.run_check.result) (sym (c.in-Some-Check.ensures.form ∙ ap (λ f. Some (form_words_of f)) c.in-Some-Check.field-0-is)) (check_exactly (check_words_of c.in-Some-Check.c) s k c.run_check.result c.run_check.ensures.cause)
+    let s : StoreCalls = store_calls g.S.Store c.args.store.now c.run_check.new.store in
+    let k : SinkCalls = sink_calls g.K.Sink c.args.out.now c.run_check.new.out in
+    let answer = c.run_check.result in
+    let is = c.in-Some-Check.ensures.form ∙ ap (λ f. Some (form_words_of f)) c.in-Some-Check.field-0-is in
+    subst (λ f. IsExactOf f s k answer) (sym is) (exactly (Checking (check_words_of c.in-Some-Check.c)) s k answer c.run_check.ensures.cause)
+
+pub returns-in-Some-Check-clause-sink : goal.returns-in-Some-Check-clause-sink
+returns-in-Some-Check-clause-sink g c =
+    let s : StoreCalls = store_calls g.S.Store c.args.store.now c.run_check.new.store in
+    let k : SinkCalls = sink_calls g.K.Sink c.args.out.now c.run_check.new.out in
+    let answer = c.run_check.result in
+    let is = c.in-Some-Check.ensures.form ∙ ap (λ f. Some (form_words_of f)) c.in-Some-Check.field-0-is in
+    subst (λ f. SinkAfterForm f s k answer) (sym is) c.run_check.ensures.sink

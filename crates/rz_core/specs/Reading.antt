@@ -1,0 +1,73 @@
+-- The files that a command reads, in order, and how each is refused.
+use Rattle.std.specs.Prelude.{◌≡◌, ◌⊎◌, ℕ, suc, List, [], ◌∷◌, Ok, Err, Some, None}
+use Rattle.rz_outside.specs.Counts.{Rose}
+use Rattle.rz_outside.specs.StoreAnswers.{IsMissing}
+use Rattle.rz_outside.specs.StoreCalls.{StoreCalls, Held}
+use Rattle.rz_elf.specs.declared.fault.ElfFault.{ElfFault}
+use Rattle.rz_elf.specs.Elf.{fault_of}
+use Rattle.rz_sys.specs.declared.input.Input.{Input}
+use Rattle.rz_rewrite.specs.Thin.{IsThin}
+use Rattle.rz_rewrite.specs.ThinFault.{IsThinFault}
+use Rattle.rz_core.specs.declared.status.Status.{Status}
+use Rattle.rz_core.specs.declared.status.Status.TheVariants as status
+use Rattle.rz_core.specs.Inputs.{input_of}
+use Rattle.rz_core.specs.Words.{Form, Debloating, Checking}
+
+-- what a file has to be: a thin file, an accepted one, or the input of this number
+pub data Demand : Type 0 where
+  Thin : Demand
+  Accepted : Demand
+  InputNumber : ℕ → Demand
+
+-- a file that a command reads
+pub record Wanted : Type 0 where
+  pub name : List ℕ
+  pub demand : Demand
+
+abbrev pub wanted : List ℕ → Demand → Wanted
+wanted name demand = record { name = name; demand = demand }
+
+-- inputs, numbered from k on
+abbrev pub wanted_inputs : ℕ → List (List ℕ) → List Wanted
+wanted_inputs k [] = []
+wanted_inputs k (name ∷ names) = wanted name (InputNumber k) ∷ wanted_inputs (suc k) names
+
+-- the files that a form reads, in order
+abbrev pub wanted_by : Form → List Wanted
+wanted_by (Debloating d) = wanted d.exe Thin ∷ wanted_inputs 1 d.inputs
+wanted_by (Checking c) = wanted c.exe Accepted ∷ []
+
+-- these bytes are what is demanded
+abbrev pub Meets : Demand → List ℕ → Type 0
+Meets Thin x = IsThin x
+Meets Accepted x = fault_of x ≡ None
+Meets (InputNumber k) x = (input : Input) × (input_of x ≡ Ok input)
+
+-- they aren't, which a file of this name is refused with
+abbrev pub Refuses : Demand → List ℕ → List ℕ → Status → Type 0
+Refuses Thin name x answer = (f : ElfFault) × (answer ≡ status.Refused name f) × IsThinFault x f
+Refuses Accepted name x answer = (f : ElfFault) × (answer ≡ status.Refused name f) × (fault_of x ≡ Some f)
+Refuses (InputNumber k) name x answer = (line : ℕ) × (answer ≡ status.BadInput k line) × (input_of x ≡ Err line)
+
+-- a read of this name may fail
+abbrev pub ReadCause : StoreCalls → List ℕ → Type 0
+ReadCause s name = (Rose s.before s.now × (s.failed ≡ name)) ⊎ IsMissing s.told s.old name
+
+-- a read of this name failed, or there was no memory
+abbrev pub ReadRefusal : List ℕ → StoreCalls → Status → Type 0
+ReadRefusal name s (status.ReadFault file) = (file ≡ name) × ReadCause s name
+ReadRefusal name s status.OutOfMemory = Unit {0}
+ReadRefusal name s _ = ⊥
+
+-- a file is refused
+abbrev pub FileRefusal : Wanted → StoreCalls → Status → Type 0
+FileRefusal w s answer = ReadRefusal w.name s answer ⊎ ((x : List ℕ) × Held s w.name x × Refuses w.demand w.name x answer)
+
+-- a file was read, and is what is demanded
+abbrev pub FileRead : Wanted → StoreCalls → Type 0
+FileRead w s = (x : List ℕ) × Held s w.name x × Meets w.demand x
+
+-- how a command that reads these files answers: by the first that is refused, and where all were read, as `End` says
+abbrev pub Course : List Wanted → StoreCalls → (Status → Type 0) → Status → Type 0
+Course [] s End answer = End answer
+Course (w ∷ ws) s End answer = FileRefusal w s answer ⊎ (FileRead w s × Course ws s End answer)
