@@ -29,22 +29,9 @@ use Rattle.rz_isa.specs.Regular.{is_regular, is_block, is_exchange}
 use Rattle.rz_isa.proofs.Numbers.{number_less, numbers_of, numbers_full, signed_is_disp, extended_byte, extended_four}
 use Rattle.rz_isa.proofs.Again.{can_of}
 use Rattle.rz_isa.proofs.Inverse.{IsRegular, regular_of}
-use Rattle.rz_isa.proofs.Tests.{never}
+use Rattle.rz_isa.proofs.Tests.{never, if_true, if_false, if_both}
 
 -- The fields of a spelling are fields that its row can have.
-
--- ---- choices
-
-pub if_true : {X : Type 0} (b : Bool) (x y : X) → b ≡ true → (if b then x else y) ≡ x
-if_true b x y e = ap (λ k. if k then x else y) e
-
-pub if_false : {X : Type 0} (b : Bool) (x y : X) → b ≡ false → (if b then x else y) ≡ y
-if_false b x y e = ap (λ k. if k then x else y) e
-
--- what holds on both ways holds of the choice
-pub if_both : {X : Type 0} (P : X → Type 0) (b : Bool) (x y : X) → (b ≡ true → P x) → (b ≡ false → P y) → P (if b then x else y)
-if_both P true x y f g = f refl
-if_both P false x y f g = g refl
 
 -- ---- the width
 

@@ -24,9 +24,8 @@ use Rattle.rz_isa.specs.Canonical.{repeat_prefix, prefixes_for, rex_for, place_b
 use Rattle.rz_isa.specs.Regular.{digit_small, rule_small}
 use Rattle.rz_isa.proofs.Built.{first_is}
 use Rattle.rz_isa.proofs.Again.{Had}
-use Rattle.rz_isa.proofs.Complete.{if_true, if_false, if_both}
 use Rattle.rz_isa.proofs.Sound.{is_reg_place, PlaceRead, read_register, read_absolute, read_memory}
-use Rattle.rz_isa.proofs.Tests.{and_both}
+use Rattle.rz_isa.proofs.Tests.{and_both, if_true, if_false, if_both}
 
 -- The canonical parts fit their row, and they are read as the fields.
 

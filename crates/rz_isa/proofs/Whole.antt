@@ -24,11 +24,11 @@ use Rattle.rz_isa.specs.Regular.{is_block, stands_alone, is_regular}
 use Rattle.rz_isa.specs.Spells.{CanHave}
 use Rattle.rz_isa.proofs.Again.{Had, had_of}
 use Rattle.rz_isa.proofs.Inverse.{IsRegular, regular_of}
-use Rattle.rz_isa.proofs.Complete.{if_true, if_false, if_both, eight_aligned, disp_short, fields_had}
+use Rattle.rz_isa.proofs.Complete.{eight_aligned, disp_short, fields_had}
 use Rattle.rz_isa.proofs.Read.{little_bytes, little_length}
 use Rattle.rz_isa.proofs.Sound.{imm_again}
 use Rattle.rz_isa.proofs.Parts.{repeat_both, repeat_prefix-is, prefixes_ok, repeat_again, rep_again, w_is, width_read, bits, reg_field_suits, place_suits, RmGiven, rm_read}
-use Rattle.rz_isa.proofs.Tests.{and_parts, and_both, below_test, within_test}
+use Rattle.rz_isa.proofs.Tests.{and_parts, and_both, below_test, within_test, if_true, if_false, if_both}
 
 -- The canonical parts of fields are spelled by their row and read as the fields.
 

@@ -9,5 +9,6 @@ pub mod Having
 pub mod Finding
 pub mod Canonical
 pub mod Regular
+pub mod Suited
 pub mod Emitted
 pub mod Takes
