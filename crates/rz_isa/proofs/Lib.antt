@@ -15,4 +15,5 @@ pub mod Parts
 pub mod Whole
 pub mod Choice
 pub mod Served
+pub mod Targeted
 pub mod Untaken

@@ -11,4 +11,5 @@ pub mod Canonical
 pub mod Regular
 pub mod Suited
 pub mod Emitted
+pub mod Targets
 pub mod Takes

@@ -37,6 +37,8 @@ impl InsnTable for Early {
 
     ghost regular = { refl };
 
+    ghost suited = { refl };
+
     ghost emits = { emits };
 
     ghost emits_lookup = { emits_lookup };

@@ -44,6 +44,8 @@ impl InsnTable for Profile1 {
 
     ghost regular = { refl };
 
+    ghost suited = { refl };
+
     ghost emits = { emits };
 
     ghost emits_lookup = { emits_lookup };
