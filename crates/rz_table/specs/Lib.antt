@@ -1,3 +1,4 @@
+pub mod Listing
 pub mod Worked
 pub mod Short
 pub mod Laws
