@@ -30,6 +30,7 @@ use Rattle.rz_isa.specs.Regular.{is_single, width_suits, names_number, is_exchan
 use Rattle.rz_isa.proofs.Equal.{same_width-refl, same_truth-refl, same_arith-refl, same_unary-refl, same_wide-refl, same_shift-refl, same_bit-refl, same_scan-refl, same_change-refl}
 use Rattle.rz_isa.proofs.Built.{imm_small}
 use Rattle.rz_isa.proofs.Exclusion.{each_from_at}
+use Rattle.rz_isa.proofs.Tests.{equal_is}
 
 -- ---- fields that are those of others or the least that a row has
 
@@ -108,11 +109,8 @@ number_place_again row d s f b n h = both_again row f _ _ (number_again row d f 
 
 -- ---- the other fields
 
-number_is : (n k : ℕ) → (n == k) ≡ true → n ≡ k
-number_is n k e = grind (arith, nat_tests)
-
 cond_back : (n : ℕ) → n < 16 → number_of_cond (cond_of (n % 16)) ≡ n
-cond_back n lt = number_is _ _ (each_from_at (λ k. number_of_cond (cond_of (k % 16)) == k) 0 16 n refl (omega arith) (omega arith))
+cond_back n lt = equal_is _ _ (each_from_at (λ k. number_of_cond (cond_of (k % 16)) == k) 0 16 n refl (omega arith) (omega arith))
 
 cond_low : (span n : ℕ) → has_cond span n ≡ true → n < 16
 cond_low span n h = grind (arith, nat_tests)
@@ -178,11 +176,8 @@ nop_met maps.Two o n e = refl
 nop_met maps.One o n e = elim (cases_Bool (o == 0x90)) [ inl y ↦ grind (arith, nat_tests) | inr k ↦ grind (arith, nat_tests) ]
 
 least_place_b : (r : Option RmRule) → place_b (least_place r) ≡ 0
-least_place_b None = refl
 least_place_b (Some rules.Any) = refl
-least_place_b (Some rules.MemoryOnly) = refl
-least_place_b (Some rules.RegisterOnly) = refl
-least_place_b (Some (rules.Fixed b)) = refl
+least_place_b _ = refl
 
 least_b : (row : Row) → b_needed row (least row) ≡ 0
 least_b row = elim (cases_Bool (in_opcode row.rm row.span)) [

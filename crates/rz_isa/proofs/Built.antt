@@ -28,7 +28,7 @@ use Rattle.rz_isa.specs.Having.{is_first}
 use Rattle.rz_isa.specs.Finding.{with_place, with_operand, with_reg, with_number, with_count, with_index, same_width, same_truth, same_arith, same_unary, same_wide, same_shift, same_bit, same_scan, same_change, rep_byte, found_in}
 use Rattle.rz_isa.proofs.Equal.{same_width-is, same_truth-is, same_arith-is, same_unary-is, same_wide-is, same_shift-is, same_bit-is, same_scan-is, same_change-is}
 use Rattle.rz_isa.specs.Regular.{Slot, nowhere, in_rm, in_reg, in_imm, place_slot, operand_slot, reg_slot, count_slot, index_slot, apart, operands_apart}
-use Rattle.rz_isa.proofs.Tests.{and_parts, some_same, passed, through}
+use Rattle.rz_isa.proofs.Tests.{and_parts, some_same, passed, through, and_three, equal_is}
 
 -- ---- a step changes the field of its letter alone
 
@@ -67,14 +67,11 @@ with_reg-step _ r f g e = let s = some_same _ g e in (ap (λ (k : Fields). k.reg
 pub with_number-step : (l : Letter) (n : ℕ) (f g : Fields) → with_number l n f ≡ Some g → (number_at l g ≡ n) × Kept (reg_slot l) f g
 with_number-step l n f g e = let t = with_reg-step l (regs.R n) f g e in (ap number_of t.0, t.1)
 
-one_is : (n : ℕ) → (n == 1) ≡ true → 1 ≡ n
-one_is n e = grind (arith, nat_tests)
-
 cut : (n k : ℕ) → k ≡ n → k < 2 ^ 8 → k % 2 ^ 8 ≡ n
 cut n k e lt = omega arith
 
 pub with_count-step : (l : Letter) (c : Count) (f g : Fields) → g.imm < 2 ^ 8 → with_count l c f ≡ Some g → (count_at l g ≡ c) × Kept (count_slot l) f g
-with_count-step letters.One (counts.Imm n) f g small e = let t = through (n == 1) f g e in (ap counts.Imm (one_is n t.0), sym t.1)
+with_count-step letters.One (counts.Imm n) f g small e = let t = through (n == 1) f g e in (ap counts.Imm (sym (equal_is n 1 t.0)), sym t.1)
 with_count-step letters.One counts.Cl f g small e = absurd (cc)
 with_count-step letters.Cl (counts.Imm n) f g small e = absurd (cc)
 with_count-step letters.Cl counts.Cl f g small e = (refl, sym (some_same f g e))
@@ -90,47 +87,33 @@ with_index-step _ (indexes.Imm n) f g small e = absurd (cc)
 -- ---- what another step leaves
 
 pub place_kept : (l : Letter) (t : Slot) (f g : Fields) → apart (place_slot l) t ≡ true → Kept t f g → place_at l g ≡ place_at l f
-place_kept letters.G in_reg f g a k = absurd (cc)
-place_kept letters.G nowhere f g a k = ap (λ (x : Fields). places.Reg x.reg) k
-place_kept letters.G in_rm f g a k = ap (λ (x : Fields). places.Reg x.reg) k
-place_kept letters.G in_imm f g a k = ap (λ (x : Fields). places.Reg x.reg) k
-place_kept letters.O in_reg f g a k = absurd (cc)
-place_kept letters.O nowhere f g a k = ap (λ (x : Fields). places.Reg x.reg) k
-place_kept letters.O in_rm f g a k = ap (λ (x : Fields). places.Reg x.reg) k
-place_kept letters.O in_imm f g a k = ap (λ (x : Fields). places.Reg x.reg) k
 place_kept letters.A t f g a k = refl
+place_kept letters.G in_reg f g a k = absurd (cc)
+place_kept letters.G _ f g a k = ap (λ (x : Fields). places.Reg x.reg) k
+place_kept letters.O in_reg f g a k = absurd (cc)
+place_kept letters.O _ f g a k = ap (λ (x : Fields). places.Reg x.reg) k
 place_kept _ in_rm f g a k = absurd (cc)
-place_kept _ nowhere f g a k = ap (λ (x : Fields). x.rm) k
-place_kept _ in_reg f g a k = ap (λ (x : Fields). x.rm) k
-place_kept _ in_imm f g a k = ap (λ (x : Fields). x.rm) k
+place_kept _ _ f g a k = ap (λ (x : Fields). x.rm) k
 
 pub reg_kept : (l : Letter) (t : Slot) (f g : Fields) → apart (reg_slot l) t ≡ true → Kept t f g → reg_at l g ≡ reg_at l f
 reg_kept letters.A t f g a k = refl
 reg_kept _ in_reg f g a k = absurd (cc)
-reg_kept _ nowhere f g a k = ap (λ (x : Fields). x.reg) k
-reg_kept _ in_rm f g a k = ap (λ (x : Fields). x.reg) k
-reg_kept _ in_imm f g a k = ap (λ (x : Fields). x.reg) k
+reg_kept _ _ f g a k = ap (λ (x : Fields). x.reg) k
 
 pub number_kept : (l : Letter) (t : Slot) (f g : Fields) → apart (reg_slot l) t ≡ true → Kept t f g → number_at l g ≡ number_at l f
 number_kept l t f g a k = ap number_of (reg_kept l t f g a k)
 
 pub w_kept : (t : Slot) (f g : Fields) → Kept t f g → g.w ≡ f.w
-w_kept nowhere f g k = ap (λ (x : Fields). x.w) k
 w_kept in_rm f g k = ap (λ (x : Fields). x.w) k
-w_kept in_reg f g k = ap (λ (x : Fields). x.w) k
-w_kept in_imm f g k = ap (λ (x : Fields). x.w) k
+w_kept _ f g k = ap (λ (x : Fields). x.w) k
 
 pub cond_kept : (t : Slot) (f g : Fields) → Kept t f g → g.cond ≡ f.cond
-cond_kept nowhere f g k = ap (λ (x : Fields). x.cond) k
 cond_kept in_rm f g k = ap (λ (x : Fields). x.cond) k
-cond_kept in_reg f g k = ap (λ (x : Fields). x.cond) k
-cond_kept in_imm f g k = ap (λ (x : Fields). x.cond) k
+cond_kept _ f g k = ap (λ (x : Fields). x.cond) k
 
 -- the immediate of a product stands before its operands
 place_imm : (l : Letter) (f g : Fields) → Kept (place_slot l) f g → g.imm ≡ f.imm
 place_imm letters.G f g k = ap (λ (x : Fields). x.imm) k
-place_imm letters.O f g k = ap (λ (x : Fields). x.imm) k
-place_imm letters.A f g k = ap (λ (x : Fields). x.imm) k
 place_imm _ f g k = ap (λ (x : Fields). x.imm) k
 
 reg_imm : (l : Letter) (f g : Fields) → Kept (reg_slot l) f g → g.imm ≡ f.imm
@@ -209,14 +192,11 @@ pub record PlaceNumberCount (d s c : Letter) (p : Place) (n : ℕ) (x : Count) (
   pub src : number_at s g ≡ n
   pub count : count_at c g ≡ x
 
-three : (a b c : Bool) → (a && b && c) ≡ true → (a ≡ true) × (b ≡ true) × (c ≡ true)
-three a b c h = (grind arith, grind arith, grind arith)
-
 pub place_number_count : (d s c : Letter) (p : Place) (n : ℕ) (x : Count) (f g : Fields) → g.imm < 2 ^ 8
     → (apart (place_slot d) (reg_slot s) && apart (place_slot d) (count_slot c) && apart (reg_slot s) (count_slot c)) ≡ true
     → option_and_then (with_count c x) (option_and_then (with_number s n) (with_place d p f)) ≡ Some g → PlaceNumberCount d s c p n x f g
 place_number_count d s c p n x f g small a e = option_and_then_some (with_count c x) (option_and_then (with_number s n) (with_place d p f)) g e (λ m em eg.
-    let t = three (apart (place_slot d) (reg_slot s)) (apart (place_slot d) (count_slot c)) (apart (reg_slot s) (count_slot c)) a in
+    let t = and_three (apart (place_slot d) (reg_slot s)) (apart (place_slot d) (count_slot c)) (apart (reg_slot s) (count_slot c)) a in
     let u = place_number d s p n f m t.0 em in
     let v = with_count-step c x m g small eg in
     record {
@@ -230,21 +210,7 @@ place_number_count d s c p n x f g small a e = option_and_then_some (with_count 
 
 pub cond_again : (c : Cond) → cond_of (number_of_cond c % 16) ≡ c
 cond_again conds.O = refl
-cond_again conds.NO = refl
-cond_again conds.B = refl
-cond_again conds.AE = refl
-cond_again conds.E = refl
-cond_again conds.NE = refl
-cond_again conds.BE = refl
-cond_again conds.A = refl
-cond_again conds.S = refl
-cond_again conds.NS = refl
-cond_again conds.P = refl
-cond_again conds.NP = refl
-cond_again conds.L = refl
-cond_again conds.GE = refl
-cond_again conds.LE = refl
-cond_again conds.G = refl
+cond_again _ = refl
 
 rep_again : (rep : Bool) → is_rep (rep_byte rep) ≡ rep
 rep_again true = refl

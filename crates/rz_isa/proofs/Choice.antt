@@ -199,15 +199,9 @@ has_chosen rows regular x form m q at same somewhere = chosen_some (λ r. found 
 rm_length : (rm : Option RmRule) (digit : Option ℕ) (code a b : ℕ) (p : Place) → length (rm_bytes rm digit code a p) ≡ length (rm_bytes rm digit code b p)
 rm_length None digit code a b p = refl
 rm_length (Some (rules.Fixed k)) digit code a b p = refl
-rm_length (Some rules.Any) digit code a b (places.Reg r) = refl
-rm_length (Some rules.Any) digit code a b (places.Mem m) = refl
-rm_length (Some rules.Any) digit code a b (places.At t) = refl
-rm_length (Some rules.MemoryOnly) digit code a b (places.Reg r) = refl
-rm_length (Some rules.MemoryOnly) digit code a b (places.Mem m) = refl
-rm_length (Some rules.MemoryOnly) digit code a b (places.At t) = refl
-rm_length (Some rules.RegisterOnly) digit code a b (places.Reg r) = refl
-rm_length (Some rules.RegisterOnly) digit code a b (places.Mem m) = refl
-rm_length (Some rules.RegisterOnly) digit code a b (places.At t) = refl
+rm_length (Some _) digit code a b (places.Reg r) = refl
+rm_length (Some _) digit code a b (places.Mem m) = refl
+rm_length (Some _) digit code a b (places.At t) = refl
 
 -- its length depends on the row and the fields alone
 pub length_is : (row : Row) (f : Fields) (a b : ℕ) → length (bytes_of row (parts_for row f a)) ≡ length (bytes_of row (parts_for row f b))

@@ -38,6 +38,7 @@ use Rattle.rz_isa.proofs.Complete.{fields_had}
 use Rattle.rz_isa.proofs.Equal.{same_truth-is}
 use Rattle.rz_isa.proofs.Exclusion.{list_all_get}
 use Rattle.rz_isa.proofs.Whole.{spelled_bytes}
+use Rattle.rz_isa.proofs.Tests.{or_left, or_right}
 
 -- What an instruction names by its address.
 
@@ -190,16 +191,10 @@ wide_register r h = (let a : (is_register W64 r || false) ≡ true = or_none _ h
 first_register : (r : Reg) → is_first r ≡ true → is_register W64 r ≡ true
 first_register r h = subst (λ k. is_register W64 k ≡ true) (first_is r h) refl
 
-either : (a b : Bool) → b ≡ true → (a || b) ≡ true
-either a b e = grind arith
-
-left : (a b : Bool) → a ≡ true → (a || b) ≡ true
-left a b e = grind arith
-
 wide_place : (rule : Option RmRule) (p : Place) → has_place rule W64 p ≡ true → is_wide_operand p ≡ true
 wide_place (Some rules.Any) p h = h
-wide_place (Some rules.MemoryOnly) p h = either (names_register W64 p) (names_memory p) h
-wide_place (Some rules.RegisterOnly) p h = left (names_register W64 p) (names_memory p) h
+wide_place (Some rules.MemoryOnly) p h = or_right (names_register W64 p) (names_memory p) h
+wide_place (Some rules.RegisterOnly) p h = or_left (names_register W64 p) (names_memory p) h
 wide_place (Some (rules.Fixed b)) p h = first_wide p h
   where
     first_wide : (p : Place) → is_first_place p ≡ true → is_wide_operand p ≡ true

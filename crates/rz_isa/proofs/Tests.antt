@@ -1,4 +1,4 @@
-use Rattle.std.proofs.Common.{ℕ, ◌≡◌, ◌≢◌, ◌<◌, ◌≤◌, ◌==◌, refl, ap, arith, Bool, true, false, ◌&&◌, Option, Some, None}
+use Rattle.std.proofs.Common.{ℕ, ◌≡◌, ◌≢◌, ◌<◌, ◌≤◌, ◌==◌, refl, ap, arith, Bool, true, false, ◌&&◌, ◌||◌, Option, Some, None}
 use Rattle.std.specs.Prelude.{nat_lt, nat_le, if◌then◌else◌}
 use Rattle.std.proofs.lemmas.Bool.Decides.{nat_tests}
 
@@ -12,6 +12,21 @@ and_parts a b h = (grind arith, grind arith)
 
 pub and_both : (a b : Bool) → a ≡ true → b ≡ true → (a && b) ≡ true
 and_both a b ea eb = grind arith
+
+pub and_three : (a b c : Bool) → (a && b && c) ≡ true → (a ≡ true) × (b ≡ true) × (c ≡ true)
+and_three a b c h = (grind arith, grind arith, grind arith)
+
+pub all_three : (a b c : Bool) → a ≡ true → b ≡ true → c ≡ true → (a && b && c) ≡ true
+all_three a b c ea eb ec = grind arith
+
+pub or_left : (a b : Bool) → a ≡ true → (a || b) ≡ true
+or_left a b e = grind arith
+
+pub or_right : (a b : Bool) → b ≡ true → (a || b) ≡ true
+or_right a b e = grind arith
+
+pub equal_is : (n k : ℕ) → (n == k) ≡ true → n ≡ k
+equal_is n k e = grind (arith, nat_tests)
 
 pub equal_test : (n k : ℕ) → n ≡ k → (n == k) ≡ true
 equal_test n k e = grind (arith, nat_tests)
