@@ -228,12 +228,16 @@ not_high : (w : Width) (r n : ℕ) → is_high (reg_of w (Some r) n) ≡ false
 not_high W8 r n = refl
 not_high _ r n = refl
 
+-- what holds of a register, of memory and of an address holds of the place that the bytes name
+place_cases : (P : Place → Type 0) (v : Width) (rex : Option ℕ) (next : ℕ) (bs : List ℕ) → P (places.Reg (regs.R 0)) → ((low : ℕ) → low < 8 → P (places.Reg (reg_of v rex (low + 8 * bit_b rex))))
+    → ((mode sib : ℕ) (disp : List ℕ) → P (places.Mem (sib_mem mode sib rex disp))) → ((low : ℕ) (disp : List ℕ) → low < 8 → P (places.Mem (base_mem low rex disp))) → ((a : ℕ) → P (places.At a)) → P (place_of v rex next bs)
+place_cases P v rex next [] none reg sib base at = none
+place_cases P v rex next (m ∷ rest) none reg sib base at =
+    if_both P (m / 64 == 3) _ _ (λ _. reg (m % 8) (eighth_low m)) (λ _. if_both P (m % 8 == 4) _ _ (λ _. sib (m / 64) (second (m ∷ rest)) (behind_one rest))
+    (λ _. if_both P (m / 64 == 0 && m % 8 == 5) _ _ (λ _. at (displaced_by next rest)) (λ _. base (m % 8) rest (eighth_low m))))
+
 place_not_high : (v : Width) (r next : ℕ) (bs : List ℕ) → high_place (place_of v (Some r) next bs) ≡ false
-place_not_high v r next [] = refl
-place_not_high v r next (m ∷ rest) =
-    if_both (λ p. high_place p ≡ false) (m / 64 == 3) (places.Reg (reg_of v (Some r) (m % 8 + 8 * bit_b (Some r)))) _ (λ _. not_high v r (m % 8 + 8 * bit_b (Some r)))
-    (λ _. if_both (λ p. high_place p ≡ false) (m % 8 == 4) (places.Mem (sib_mem (m / 64) (second (m ∷ rest)) (Some r) (behind_one rest))) _ (λ _. refl)
-    (λ _. if_both (λ p. high_place p ≡ false) (m / 64 == 0 && m % 8 == 5) (places.At (displaced_by next rest)) (places.Mem (base_mem (m % 8) (Some r) rest)) (λ _. refl) (λ _. refl)))
+place_not_high v r next bs = place_cases (λ p. high_place p ≡ false) v (Some r) next bs refl (λ low _. not_high v r (low + 8 * bit_b (Some r))) (λ mode sib disp. refl) (λ low disp _. refl) (λ a. refl)
 
 rm_not_high : (rm : Option RmRule) (v : Width) (r next : ℕ) (bs : List ℕ) → high_place (rm_place rm v (Some r) next bs) ≡ false
 rm_not_high (Some (rules.Fixed b)) v r next bs = refl
@@ -248,11 +252,7 @@ first_not_low W8 = refl
 first_not_low _ = refl
 
 place_not_low : (v : Width) (next : ℕ) (bs : List ℕ) → low_byte_place v (place_of v None next bs) ≡ false
-place_not_low v next [] = first_not_low v
-place_not_low v next (m ∷ rest) =
-    if_both (λ p. low_byte_place v p ≡ false) (m / 64 == 3) (places.Reg (reg_of v None (m % 8 + 8 * bit_b None))) _ (λ _. not_low v (m % 8 + 8 * bit_b None))
-    (λ _. if_both (λ p. low_byte_place v p ≡ false) (m % 8 == 4) (places.Mem (sib_mem (m / 64) (second (m ∷ rest)) None (behind_one rest))) _ (λ _. refl)
-    (λ _. if_both (λ p. low_byte_place v p ≡ false) (m / 64 == 0 && m % 8 == 5) (places.At (displaced_by next rest)) (places.Mem (base_mem (m % 8) None rest)) (λ _. refl) (λ _. refl)))
+place_not_low v next bs = place_cases (λ p. low_byte_place v p ≡ false) v None next bs (first_not_low v) (λ low _. not_low v (low + 8 * bit_b None)) (λ mode sib disp. refl) (λ low disp _. refl) (λ a. refl)
 
 rm_not_low : (rm : Option RmRule) (v : Width) (next : ℕ) (bs : List ℕ) → low_byte_place v (rm_place rm v None next bs) ≡ false
 rm_not_low (Some (rules.Fixed b)) v next bs = first_not_low v
@@ -271,11 +271,7 @@ w_of_size sizes.WQ b n lt m = grind (arith, nat_tests)
 w_of_size sizes.N b n lt m = omega arith
 
 place_x : (v : Width) (rex : Option ℕ) (next : ℕ) (bs : List ℕ) → x_needed (place_of v rex next bs) ≤ bit_x rex
-place_x v rex next [] = omega arith
-place_x v rex next (m ∷ rest) =
-    if_both (λ p. x_needed p ≤ bit_x rex) (m / 64 == 3) (places.Reg (reg_of v rex (m % 8 + 8 * bit_b rex))) _ (λ _. omega arith)
-    (λ _. if_both (λ p. x_needed p ≤ bit_x rex) (m % 8 == 4) (places.Mem (sib_mem (m / 64) (second (m ∷ rest)) rex (behind_one rest))) _ (λ _. indexed (second (m ∷ rest) / 8 % 8) (bit_x rex) (omega arith))
-    (λ _. if_both (λ p. x_needed p ≤ bit_x rex) (m / 64 == 0 && m % 8 == 5) (places.At (displaced_by next rest)) (places.Mem (base_mem (m % 8) rex rest)) (λ _. omega arith) (λ _. omega arith)))
+place_x v rex next bs = place_cases (λ p. x_needed p ≤ bit_x rex) v rex next bs (omega arith) (λ low _. omega arith) (λ mode sib disp. indexed (sib / 8 % 8) (bit_x rex) (omega arith)) (λ low disp _. omega arith) (λ a. omega arith)
   where
     indexed : (low b : ℕ) → low < 8 → number_in (index_of (low + 8 * b)) / 8 ≤ b
     indexed low b lt = if_both (λ o. number_in o / 8 ≤ b) (low + 8 * b == 4) None (Some (low + 8 * b)) (λ _. omega arith) (λ _. omega arith)
@@ -288,11 +284,7 @@ reg_b : (v : Width) (rex : Option ℕ) (low b : ℕ) → low < 8 → code_of (re
 reg_b v rex low b lt = subst (λ k. k / 8 ≤ b) (sym (code_again v rex (low + 8 * b))) (omega arith)
 
 place_of_b : (v : Width) (rex : Option ℕ) (next : ℕ) (bs : List ℕ) → place_b (place_of v rex next bs) ≤ bit_b rex
-place_of_b v rex next [] = omega arith
-place_of_b v rex next (m ∷ rest) =
-    if_both (λ p. place_b p ≤ bit_b rex) (m / 64 == 3) (places.Reg (reg_of v rex (m % 8 + 8 * bit_b rex))) _ (λ _. reg_b v rex (m % 8) (bit_b rex) (eighth_low m))
-    (λ _. if_both (λ p. place_b p ≤ bit_b rex) (m % 8 == 4) (places.Mem (sib_mem (m / 64) (second (m ∷ rest)) rex (behind_one rest))) _ (λ _. based (m / 64) (second (m ∷ rest) % 8) (bit_b rex) (omega arith))
-    (λ _. if_both (λ p. place_b p ≤ bit_b rex) (m / 64 == 0 && m % 8 == 5) (places.At (displaced_by next rest)) (places.Mem (base_mem (m % 8) rex rest)) (λ _. omega arith) (λ _. omega arith)))
+place_of_b v rex next bs = place_cases (λ p. place_b p ≤ bit_b rex) v rex next bs (omega arith) (λ low lt. reg_b v rex low (bit_b rex) lt) (λ mode sib disp. based mode (sib % 8) (bit_b rex) (omega arith)) (λ low disp lt. omega arith) (λ a. omega arith)
   where
     based : (mode low b : ℕ) → low < 8 → number_in (base_of mode low b) / 8 ≤ b
     based mode low b lt = if_both (λ o. number_in o / 8 ≤ b) (mode == 0 && low == 5) None (Some (low + 8 * b)) (λ _. omega arith) (λ _. omega arith)
