@@ -15,3 +15,4 @@ pub mod Parts
 pub mod Whole
 pub mod Choice
 pub mod Served
+pub mod Targeted

@@ -44,11 +44,10 @@ use Rattle.rz_isa.specs.Canonical.{repeat_prefix, prefixes_for, rex_for, place_b
 use Rattle.rz_isa.specs.Emitted.{HasSpelling, HasShortSpelling, place_len, near, close, fits_8, fits_32, register, is_wide_operand, is_emitted, is_double}
 use Rattle.rz_isa.proofs.Again.{Had, had_of, can_of}
 use Rattle.rz_isa.proofs.Choice.{serves_by, length_is}
-use Rattle.rz_isa.proofs.Complete.{if_both}
 use Rattle.rz_isa.proofs.Equal.{same_arith-refl}
 use Rattle.rz_isa.proofs.Read.{little_length}
 use Rattle.rz_isa.proofs.Whole.{length_of}
-use Rattle.rz_isa.proofs.Tests.{never, and_both, below_test, unequal_test, some_same, passed}
+use Rattle.rz_isa.proofs.Tests.{never, and_both, below_test, unequal_test, some_same, passed, if_both}
 
 -- How to show, for a table whose rows are known, that an instruction has a canonical spelling and
 -- how long it is.
