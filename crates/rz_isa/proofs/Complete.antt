@@ -2,24 +2,15 @@ use Rattle.std.proofs.Common.{ℕ, zero, suc, ◌≡◌, ◌+◌, ◌-◌, ◌*�
 use Rattle.std.specs.Prelude.{nat_lt, is_some, if◌then◌else◌}
 use Rattle.std.proofs.lemmas.Bool.{cases_Bool}
 use Rattle.std.proofs.lemmas.Bool.Decides.{nat_tests}
-use Rattle.rz_num.specs.declared.width.Width.{Width}
-use Rattle.rz_num.specs.declared.width.Width.TheVariants.{W8, W16, W32, W64}
-use Rattle.rz_isa.specs.declared.rows.OpMap.{OpMap}
+use Rattle.rz_isa.proofs.Types.{Width, W8, W16, W32, W64, OpMap, F3Rule, Size, RmRule, ImmKind, Row, Op, Place}
 use Rattle.rz_isa.specs.declared.rows.OpMap.TheVariants as maps
-use Rattle.rz_isa.specs.declared.rows.F3Rule.{F3Rule}
 use Rattle.rz_isa.specs.declared.rows.F3Rule.TheVariants as f3s
-use Rattle.rz_isa.specs.declared.rows.Size.{Size}
 use Rattle.rz_isa.specs.declared.rows.Size.TheVariants as sizes
-use Rattle.rz_isa.specs.declared.rows.RmRule.{RmRule}
 use Rattle.rz_isa.specs.declared.rows.RmRule.TheVariants as rules
-use Rattle.rz_isa.specs.declared.rows.ImmKind.{ImmKind}
 use Rattle.rz_isa.specs.declared.rows.ImmKind.TheVariants as imms
-use Rattle.rz_isa.specs.declared.rows.Row.{Row}
 use Rattle.rz_isa.specs.declared.rows.Letter.TheVariants as letters
-use Rattle.rz_isa.specs.declared.rows.Op.{Op}
 use Rattle.rz_isa.specs.declared.rows.Op.TheVariants as ops
 use Rattle.rz_isa.specs.declared.instruction.Reg.TheVariants as regs
-use Rattle.rz_isa.specs.declared.instruction.Place.{Place}
 use Rattle.rz_isa.specs.declared.instruction.Place.TheVariants as places
 use Rattle.rz_isa.specs.Number.{are_bytes, number, numbers, extended, displaced_by}
 use Rattle.rz_isa.specs.Spelling.{Parts, Fits, bit_w, bit_r, bit_x, bit_b, is_met, w_demand, b_demand, disp_len, rm_len, second, rm_fits, width_of, width_at, imm_len, times}

@@ -7,10 +7,8 @@ use Rattle.std.proofs.lemmas.List.{append-nil}
 use Rattle.std.proofs.lemmas.Grind.{common_steps}
 use Rattle.std.proofs.lemmas.List.Sums.{take_while-cons}
 use Rattle.rz_isa.specs.declared.rows.OpMap.TheVariants as maps
-use Rattle.rz_isa.specs.declared.rows.RmRule.{RmRule}
-use Rattle.rz_isa.specs.declared.rows.F3Rule.{F3Rule}
+use Rattle.rz_isa.proofs.Types.{RmRule, F3Rule, Row}
 use Rattle.rz_isa.specs.declared.rows.F3Rule.TheVariants as f3s
-use Rattle.rz_isa.specs.declared.rows.Row.{Row}
 use Rattle.rz_isa.specs.Spelling.{Parts, SpelledBy, is_prefix, is_rex, rex_bytes, escape, is_met, times, most, is_allowed, prefixes_fit, f3_demand, w_demand, b_demand, opcode_fits, rm_fits, bit_w, bit_b}
 use Rattle.rz_isa.specs.Reading.{Head, Opcode, skip_while, rex_at, behind_rex, second_at, opcode_at, head_at}
 use Rattle.rz_isa.specs.Table.{is_plain, each_from}
