@@ -1,16 +1,14 @@
 use Rattle.std.proofs.Common.{ℕ, ◌≡◌, ◌%◌, ◌==◌, refl, ap, sym, ◌∙◌, subst, arith, List, Bool, true, false, not, ◌&&◌, ◌||◌, ◌⊎◌, inl, inr, Option, Some, None}
-use Rattle.std.specs.Prelude.{IsTrue, slice_get, if◌then◌else◌}
+use Rattle.std.specs.Prelude.{if◌then◌else◌}
 use Rattle.std.specs.List.{list_all}
-use Rattle.rz_isa.proofs.Types.{Width, W8, W16, W32, W64, Size, RmRule, Row, Letter, Op, Insn, Reg, Place, Operand, Fields}
+use Rattle.rz_isa.proofs.Types.{Width, W64, Size, RmRule, Row, Letter, Op, Insn, Reg, Place, Operand, Fields}
 use Rattle.rz_flags.specs.Cond.{cond_of}
 use Rattle.rz_isa.specs.declared.rows.Size.TheVariants as sizes
 use Rattle.rz_isa.specs.declared.rows.RmRule.TheVariants as rules
 use Rattle.rz_isa.specs.declared.rows.Letter.TheVariants as letters
 use Rattle.rz_isa.specs.declared.rows.Op.TheVariants as ops
 use Rattle.rz_isa.specs.declared.instruction.Insn.TheVariants as insns
-use Rattle.rz_isa.specs.declared.instruction.Reg.TheVariants as regs
 use Rattle.rz_isa.specs.declared.instruction.Place.TheVariants as places
-use Rattle.rz_isa.specs.declared.instruction.Operand.TheVariants as operands
 use Rattle.rz_isa.specs.Fields.{place_at, operand_at, reg_at, number_of, number_at, count_at, index_at, letter_width, rm_width, build_op}
 use Rattle.rz_isa.specs.Insn.{target_of, rip_of, rip_of_operand, first_some, rip_target_of}
 use Rattle.rz_isa.specs.Having.{has_width, is_register, is_first, has_reg, in_reg_field, in_opcode, names_register, names_memory, is_first_place, has_place}
@@ -18,7 +16,6 @@ use Rattle.rz_isa.specs.Finding.{same_truth}
 use Rattle.rz_isa.specs.Regular.{is_regular}
 use Rattle.rz_isa.specs.Suited.{letter_suits, letters_of, has_condition, has_target, has_repeat, is_displacement, is_repeats, prefixes_suit, is_indirect, is_wide_class, is_suited}
 use Rattle.rz_isa.specs.Spells.{next_address}
-use Rattle.rz_isa.specs.Table.{SpelledSomewhere}
 use Rattle.rz_isa.specs.Emitted.{is_wide_operand, indirect_operand}
 use Rattle.rz_isa.specs.Targets.{IgnoresPlace, RipTargets, DirectTargets, IndirectOperands}
 use Rattle.rz_isa.proofs.Again.{Had, had_of}

@@ -3,7 +3,7 @@ use Rattle.std.specs.Prelude.{nat_lt, nat_le, is_some, if◌then◌else◌}
 use Rattle.std.proofs.lemmas.Bool.{cases_Bool}
 use Rattle.std.proofs.lemmas.Bool.Decides.{nat_tests}
 use Rattle.std.proofs.lemmas.Grind.{common_steps}
-use Rattle.rz_isa.proofs.Types.{Width, W8, W16, W32, W64, OpMap, RmRule, ImmKind, Row, Place, Fields}
+use Rattle.rz_isa.proofs.Types.{Width, W8, OpMap, RmRule, ImmKind, Row, Place, Fields}
 use Rattle.rz_isa.specs.declared.rows.OpMap.TheVariants as maps
 use Rattle.rz_isa.specs.declared.rows.RmRule.TheVariants as rules
 use Rattle.rz_isa.specs.declared.rows.ImmKind.TheVariants as imms
@@ -21,7 +21,7 @@ use Rattle.rz_isa.proofs.Complete.{eight_aligned, disp_short, fields_had}
 use Rattle.rz_isa.proofs.Read.{little_bytes, little_length}
 use Rattle.rz_isa.proofs.Sound.{imm_again}
 use Rattle.rz_isa.proofs.Parts.{repeat_both, repeat_prefix-is, prefixes_ok, repeat_again, rep_again, w_is, width_read, bits, reg_field_suits, place_suits, RmGiven, rm_read}
-use Rattle.rz_isa.proofs.Tests.{and_parts, and_both, below_test, within_test, if_true, if_false, if_both, equal_is, equal_test, never}
+use Rattle.rz_isa.proofs.Tests.{and_parts, and_both, below_test, within_test, if_true, if_false, if_both, equal_is, equal_test}
 
 -- The canonical parts of fields are spelled by their row and read as the fields.
 
