@@ -165,7 +165,7 @@ nop_met : (m : OpMap) (o n : ℕ) → n ≡ 0 → is_met (b_demand ops.Nop m o) 
 nop_met maps.Two o n e = refl
 nop_met maps.One o n e = elim (cases_Bool (o == 0x90)) [ inl y ↦ grind (arith, nat_tests) | inr k ↦ grind (arith, nat_tests) ]
 
-least_place_b : (r : Option RmRule) → place_b (least_place r) ≡ 0
+pub least_place_b : (r : Option RmRule) → place_b (least_place r) ≡ 0
 least_place_b (Some rules.Any) = refl
 least_place_b _ = refl
 

@@ -14,7 +14,7 @@ use Rattle.rz_isa.specs.Having.{is_byte, has_width, is_register, is_first, is_hi
 use Rattle.rz_isa.specs.Finding.{least_width, least_place, least}
 use Rattle.rz_isa.specs.Regular.{is_byte_class}
 use Rattle.rz_isa.proofs.Built.{first_is}
-use Rattle.rz_isa.proofs.Again.{Below, Numbered, Had}
+use Rattle.rz_isa.proofs.Again.{Below, Numbered, Had, least_place_b}
 use Rattle.rz_isa.proofs.Tests.{never, if_both}
 
 -- Lesser fields can be had where the fields that they are below can.
@@ -70,11 +70,7 @@ least_x : (r : Option RmRule) → x_needed (least_place r) ≡ 0
 least_x (Some rules.Any) = refl
 least_x _ = refl
 
-least_pb : (r : Option RmRule) → place_b (least_place r) ≡ 0
-least_pb (Some rules.Any) = refl
-least_pb _ = refl
-
-first_low : (w : Width) → is_low_byte w (regs.R 0) ≡ false
+pub first_low : (w : Width) → is_low_byte w (regs.R 0) ≡ false
 first_low W8 = refl
 first_low _ = refl
 
@@ -113,7 +109,7 @@ rex_less row g f b =
     let w : w_needed row.size g.w ≡ w_needed row.size f.w = ap (w_needed row.size) b.w in
     let c : code_of g.reg ≤ code_of f.reg = either_way (λ r. code_of r ≤ code_of f.reg) g.reg f.reg (regs.R 0) b.reg (omega arith) (omega arith) in
     let x : x_needed g.rm ≤ x_needed f.rm = either_way (λ p. x_needed p ≤ x_needed f.rm) g.rm f.rm (least_place row.rm) b.rm (omega arith) (omega (arith, least_x row.rm)) in
-    let p : place_b g.rm ≤ place_b f.rm = either_way (λ p. place_b p ≤ place_b f.rm) g.rm f.rm (least_place row.rm) b.rm (omega arith) (omega (arith, least_pb row.rm)) in
+    let p : place_b g.rm ≤ place_b f.rm = either_way (λ p. place_b p ≤ place_b f.rm) g.rm f.rm (least_place row.rm) b.rm (omega arith) (omega (arith, least_place_b row.rm)) in
     let e = eighth (code_of g.reg) (code_of f.reg) c in
     sums _ _ _ _ _ _ _ _ w (when_less (in_reg_field row.rm row.digit) _ 0 _ 0 e (omega arith)) x (when_less (in_opcode row.rm row.span) _ _ _ _ e p)
   where
