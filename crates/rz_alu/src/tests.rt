@@ -76,9 +76,13 @@ fn conditions_after_cmp(rt: HostRuntime) {
 #[test]
 fn two_operands(rt: HostRuntime) {
     for (op, w, a, b, value, set) in ARITHS.iter().copied() {
-        let (result, flags) = arith(op, w, a, b, SET);
-        assert_eq!(rt; result, value);
-        assert!(rt; are_written(flags, SET, STATUS, set));
+        for before in [CLEAR, SET] {
+            if before.cf || !matches!(op, ArithOp::Adc | ArithOp::Sbb) {
+                let (result, flags) = arith(op, w, a, b, before);
+                assert_eq!(rt; result, value);
+                assert!(rt; are_written(flags, before, STATUS, set));
+            }
+        }
     }
 }
 
