@@ -1,0 +1,31 @@
+-- The first line of a text.
+use Rattle.std.proofs.Common.{◌≡◌, ℕ, ◌+◌, ◌<◌, ◌==◌, false, List, [], ◌∷◌, length, take, drop, Some, None, refl, arith}
+use Rattle.std.specs.Prelude.{position}
+use Rattle.std.specs.List.{slice_split, position_or_len}
+use Rattle.std.proofs.lemmas.List.Splits.{slice_split_first, slice_split_none, length-slice_split}
+use Rattle.std.proofs.lemmas.List.Elements.{All-from_get_or}
+use Rattle.rz_text.specs.Lines.{lines, lines_of_pieces}
+use Rattle.rz_text.proofs.Places.{position-some, position-none}
+
+-- a piece with pieces behind it is a line
+lines_of_pieces-cons : (piece : List ℕ) (pieces : List (List ℕ)) → 0 < length pieces → lines_of_pieces (piece ∷ pieces) ≡ piece ∷ lines_of_pieces pieces
+lines_of_pieces-cons piece [] some = absurd (omega arith)
+lines_of_pieces-cons piece (next ∷ more) some = refl
+
+-- a piece alone is a line where it isn't empty
+lines_of_pieces-last : (piece : List ℕ) → 0 < length piece → lines_of_pieces (piece ∷ []) ≡ piece ∷ []
+lines_of_pieces-last piece some = grind arith
+
+pub lines-end : (text : List ℕ) (i : ℕ) → position (λ b. b == 10) text ≡ Some i → lines text ≡ take i text ∷ lines (drop (i + 1) text)
+lines-end text i h =
+    let at = position-some (λ (b : ℕ). b == 10) text i h in
+    let below : position_or_len (λ (b : ℕ). b == 10) text < length text = omega (arith, at.0, at.1) in
+    let count = length-slice_split (λ (b : ℕ). b == 10) (drop (i + 1) text) in
+    let split : slice_split (λ (b : ℕ). b == 10) text ≡ take i text ∷ slice_split (λ (b : ℕ). b == 10) (drop (i + 1) text) =
+    rw (← at.0) (slice_split_first (λ (b : ℕ). b == 10) text 0 below) in
+    rw split (lines_of_pieces-cons (take i text) (slice_split (λ (b : ℕ). b == 10) (drop (i + 1) text)) (omega (arith, count)))
+
+pub lines-last : (text : List ℕ) → position (λ b. b == 10) text ≡ None → 0 < length text → lines text ≡ text ∷ []
+lines-last text h some =
+    let whole = slice_split_none (λ (b : ℕ). b == 10) text (All-from_get_or (λ (b : ℕ). (b == 10) ≡ false) text 0 (position-none (λ (b : ℕ). b == 10) text 0 h)) in
+    rw whole (lines_of_pieces-last text some)
