@@ -4,7 +4,7 @@ use Rattle.std.specs.Prelude.{slice_index}
 use Rattle.std.specs.List.{AllByRecursion}
 use Rattle.rz_elf.specs.declared.elf.Elf.{Elf}
 use Rattle.rz_machine.specs.declared.machine.Machine.{Machine}
-use Rattle.rz_machine.specs.declared.sys.Input.{Input}
+use Rattle.rz_sys.specs.declared.input.Input.{Input}
 use Rattle.rz_machine.specs.declared.trace.Record.{Record}
 use Rattle.rz_image.specs.Memory.{Regions, NoSelfWritten}
 use Rattle.rz_elf.specs.Elf.{fault_of, image_of, Image}
@@ -13,7 +13,8 @@ use Rattle.rz_machine.specs.First.{decode_first}
 use Rattle.rz_elf.specs.Loaded.{loaded}
 use Rattle.rz_machine.specs.ThinElf.{thin_elf}
 use Rattle.rz_machine.specs.Thin.{IsThin}
-use Rattle.rz_machine.specs.Start.{start, empty_input}
+use Rattle.rz_sys.specs.Input.{empty_input}
+use Rattle.rz_machine.specs.Start.{start}
 use Rattle.rz_machine.specs.Begun.{recorded}
 use Rattle.rz_machine.specs.LeftCode.{StaysInCode}
 use Rattle.rz_machine.specs.Recorded.{StandsIn, IsUncut}

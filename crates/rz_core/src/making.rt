@@ -17,7 +17,7 @@ use crate::rewrite::{New, rewrite};
 use crate::texts;
 use rz_elf::elf::Elf;
 use rz_machine::first::First;
-use rz_machine::sys::Input;
+use rz_sys::input::Input;
 use rz_machine::trace::{Record, TraceRefusal, trace};
 use rz_num::{Bytes, OutOfMemory};
 use std::alloc::{AllocError, Global};

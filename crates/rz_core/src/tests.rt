@@ -7,7 +7,7 @@ use rz_elf::read::read_elf;
 use rz_machine::first::First;
 use rz_machine::machine::{End, Machine};
 use rz_machine::start::start;
-use rz_machine::sys::Input;
+use rz_sys::input::Input;
 use rz_machine::thin::read_thin;
 use rz_num::{Bytes, OutOfMemory, Text, put_u64};
 use rz_outside::{MemSink, MemStore, PlainSink, PlainStore, has_distinct_names};

@@ -6,7 +6,7 @@ use Rattle.std.proofs.lemmas.Bool.Decides.{nat_tests}
 use Rattle.rz_num.specs.Page.{page_up}
 use Rattle.rz_image.specs.Perm.{executes}
 use Rattle.rz_image.specs.Memory.{Regions, RegionsFit, AscendFrom, Ascend, zeros, contains, cell_in, code_of}
-use Rattle.rz_image.proofs.MemoryLaws.{within}
+use Rattle.rz_image.specs.Laws.Puts.{within}
 use Rattle.rz_image.proofs.Zeros.{length-zeros}
 use Rattle.rz_elf.specs.declared.elf.Load.{Load}
 use Rattle.rz_elf.specs.Elf.{Segment, Placed, segments, is_load, loads, placed_from, placed, against, isnt_above, shares_page, highest_end, image_of}

@@ -1,6 +1,5 @@
 pub mod Cells
 pub mod FindLaws
-pub mod MemoryLaws
 pub mod MemoryTurns
 pub mod OpenLaws
 pub mod PermLaws

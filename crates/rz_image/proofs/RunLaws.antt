@@ -9,7 +9,7 @@ use Rattle.rz_image.specs.Memory.{Cell, Regions, Ascend, cell_in, cell_at, no_ce
 use Rattle.rz_image.specs.Run.{permits, allows, run_in, HasRegion, IsRun}
 use Rattle.rz_image.proofs.Cells.{inside}
 use Rattle.rz_image.proofs.FindLaws.{fits_at, cell_found}
-use Rattle.rz_image.proofs.MemoryLaws.{within}
+use Rattle.rz_image.specs.Laws.Puts.{within}
 
 -- a cell of a region allows what is open and permitted
 allows_in : (access : Access) (r : Region) (k : ℕ) → allows access (cell_in r k) ≡ (nat_lt k r.opened && permits access r.perm)

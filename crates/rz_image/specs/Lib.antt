@@ -2,3 +2,4 @@ pub mod Perm
 pub mod Memory
 pub mod Run
 pub mod Word
+pub mod Laws

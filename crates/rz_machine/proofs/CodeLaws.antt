@@ -6,8 +6,9 @@ use Rattle.rz_machine.specs.declared.machine.Machine.{Machine}
 use Rattle.rz_image.specs.Memory.{Regions, Range, cell_at, put_byte, code_of, fetched, fetch, SameCode, NoSelfWritten, SamePerms, PermsStand}
 use Rattle.rz_machine.specs.Insn.{Decoder}
 use Rattle.rz_machine.specs.State.{step, after}
-use Rattle.rz_image.proofs.MemoryLaws.{set_byte, cell_at-put_same, cell_at-put_other}
-use Rattle.rz_machine.proofs.StepLaws.{StandsPut, step_stands, after_stands}
+use Rattle.rz_image.specs.Laws.Puts.{set_byte, cell_at-put_same, cell_at-put_other}
+use Rattle.rz_image.specs.Laws.Alike.{StandsPut}
+use Rattle.rz_machine.proofs.StepLaws.{step_stands, after_stands}
 
 -- the same code is fetched alike
 pub fetch_same : (m n : Regions) (a k : ℕ) → SameCode m n → fetch m a k ≡ fetch n a k

@@ -9,19 +9,20 @@ use Rattle.rz_machine.specs.declared.decode.Decoded.{Decoded}
 use Rattle.rz_machine.specs.declared.machine.End.{End}
 use Rattle.rz_machine.specs.declared.machine.End.TheVariants as end
 use Rattle.rz_machine.specs.declared.machine.Machine.{Machine}
-use Rattle.rz_machine.specs.declared.sys.World.{World}
+use Rattle.rz_sys.specs.declared.world.World.{World}
 use Rattle.rz_image.specs.Memory.{Regions, IsInside}
 use Rattle.rz_machine.specs.Insn.{Decoder, Way, Onward, Jumps, Branches, Calls, Halts, way_of}
 use Rattle.rz_machine.specs.First.{mov_number}
 use Rattle.rz_machine.specs.Effect.{Effect, PlainEffect, plain_effect, plainly, effect_by, Done, Went, Stopped, carry, read_words, EffectClear}
-use Rattle.rz_machine.specs.Answer.{Called, answer, call_in, rdi, rsi, rdx, world_after}
+use Rattle.rz_sys.specs.Answer.{Called, answer, call_in, rdi, rsi, rdx, world_after}
 use Rattle.rz_machine.specs.State.{step, after, perform, perform_by, perform_effect, after_done, after_call, after_exit, onward, stopped}
 use Rattle.rz_machine.specs.Touches.{StepClear, InsnClear, WayClear}
 use Rattle.rz_machine.specs.Added.{Layout}
 use Rattle.rz_machine.specs.Keeps.{Same, Edges, AlikeEnds}
 use Rattle.rz_machine.proofs.Outcomes.{DoneHas, carry_has}
 use Rattle.rz_machine.proofs.CodeLaws.{HasCode, step_code}
-use Rattle.rz_machine.proofs.OneForm.{DoneAlike, carry_alike, CalledAlike, call_alike}
+use Rattle.rz_sys.specs.Laws.Alike.{CalledAlike, call_alike}
+use Rattle.rz_machine.proofs.OneForm.{DoneAlike, carry_alike}
 use Rattle.rz_machine.proofs.Runs.{dest, Follows, Stand}
 use Rattle.rz_machine.proofs.Placed.{InsnAt}
 use Rattle.rz_machine.proofs.Comes.{decodes_to, step_is, moved, jump_is, branch_is, halt_is, Comes, stay, one_more, weaker, jump_comes, Onto, onto}

@@ -6,9 +6,10 @@ use Rattle.rz_machine.specs.declared.machine.End.TheVariants as end
 use Rattle.rz_machine.specs.declared.machine.Machine.{Machine}
 use Rattle.rz_image.specs.Memory.{fetch, cell_at, refused, bytes_at}
 use Rattle.rz_machine.specs.Effect.{carry, read_words}
-use Rattle.rz_machine.specs.Answer.{answer}
+use Rattle.rz_sys.specs.Answer.{answer}
 use Rattle.rz_machine.specs.State.{step, after}
-use Rattle.rz_machine.specs.Start.{start, empty_input, first_regs, first_rsp}
+use Rattle.rz_sys.specs.Input.{empty_input}
+use Rattle.rz_machine.specs.Start.{start, first_regs, first_rsp}
 use Rattle.rz_machine.specs.First.{decode_first, mov_number}
 use Rattle.rz_machine.proofs.ThinLaws.{code_image}
 use Rattle.rz_machine.specs.Greeting.{greeting}

@@ -8,7 +8,7 @@ use Rattle.rz_machine.specs.declared.items.Label.{Label}
 use Rattle.rz_machine.specs.declared.items.Label.TheVariants as label
 use Rattle.rz_machine.specs.declared.machine.End.TheVariants as end
 use Rattle.rz_machine.specs.declared.machine.Machine.{Machine}
-use Rattle.rz_machine.specs.declared.sys.Input.{Input}
+use Rattle.rz_sys.specs.declared.input.Input.{Input}
 use Rattle.rz_machine.specs.declared.trace.Record.{Record}
 use Rattle.rz_image.specs.Memory.{Regions, IsOutside, SameCell, Alike, cell_at, wrap}
 use Rattle.rz_machine.specs.State.{step}

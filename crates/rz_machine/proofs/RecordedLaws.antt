@@ -3,7 +3,7 @@ use Rattle.std.proofs.Common.{◌≡◌, ℕ, zero, suc, ◌-◌, ◌<◌, ◌�
 use Rattle.std.proofs.lemmas.Bool.{or_left, or_right, cases_lt}
 use Rattle.rz_machine.specs.declared.machine.End.{End}
 use Rattle.rz_machine.specs.declared.machine.Machine.{Machine}
-use Rattle.rz_machine.specs.declared.sys.Input.{Input}
+use Rattle.rz_sys.specs.declared.input.Input.{Input}
 use Rattle.rz_machine.specs.declared.trace.Record.{Record}
 use Rattle.rz_image.specs.Memory.{Regions, NoSelfWritten}
 use Rattle.rz_elf.specs.Elf.{Image}

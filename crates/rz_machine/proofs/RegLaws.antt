@@ -14,13 +14,11 @@ use Rattle.rz_machine.specs.declared.decode.Decoded.{Decoded}
 use Rattle.rz_machine.specs.declared.decode.Decoded.TheVariants as decoded
 use Rattle.rz_machine.specs.declared.machine.End.{End}
 use Rattle.rz_machine.specs.declared.machine.Machine.{Machine}
-use Rattle.rz_machine.specs.declared.sys.Reply.{Reply}
-use Rattle.rz_machine.specs.declared.sys.Reply.TheVariants.{Full, AtMost, Error}
-use Rattle.rz_machine.specs.declared.sys.World.{World}
-use Rattle.rz_image.specs.Memory.{Regions, wrap}
+use Rattle.rz_image.specs.Memory.{wrap}
 use Rattle.rz_machine.specs.Insn.{Decoder}
 use Rattle.rz_machine.specs.Effect.{carry, read_words, written, put_reg, is_written}
-use Rattle.rz_machine.specs.Answer.{Called, Call, Write, NoFile, Exit, Other, answer, answer_as, call_in, cut_count, write_allowed, write_reply, next_reply}
+use Rattle.rz_sys.specs.Answer.{Called, answer}
+use Rattle.rz_sys.specs.Laws.Answers.{answer_word}
 use Rattle.rz_machine.specs.State.{step, act, perform, running, after_exit, decoded_at}
 
 -- a word of 64 bits
@@ -64,26 +62,6 @@ flags_fit f =
     bit : (b : _) (n : ℕ) → bit_of b n ≤ n
     bit true n = omega arith
     bit false n = omega arith
-
--- what a call answers
-answer_word : (regs : List ℕ) (m : Regions) (w : World) → IsWord (answer regs m w).answer
-unfolding answer
-answer_word regs m w = go (call_in regs) _ _ _
-  where
-    sent : (r : Reply) (at n : ℕ) → n ≤ 0x7ffff000 → IsWord (write_reply r at n m w).answer
-    sent Full at n h = omega arith
-    sent (AtMost k) at n h = omega arith
-    sent (Error e) at n h = omega arith
-
-    send : (o : Option ℕ) (at n : ℕ) → n ≤ 0x7ffff000 → IsWord (write_allowed o at n m w).answer
-    send None at n h = sent (next_reply w.replies) at n h
-    send (Some bad) at n h = omega arith
-
-    go : (c : Call) (a b n : ℕ) → IsWord (answer_as c a b n m w).answer
-    go Write a b n = send _ b (cut_count n) (omega arith)
-    go NoFile a b n = omega arith
-    go Exit a b n = omega arith
-    go Other a b n = omega arith
 
 -- one step
 pub step_regs : (dec : Decoder) (s : Machine) → AreRegs s.cpu.regs → AreRegs (step dec s).cpu.regs

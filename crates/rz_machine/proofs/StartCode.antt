@@ -3,7 +3,7 @@ use Rattle.std.proofs.Common.{◌≡◌, ℕ, ◌-◌, ◌⊎◌, inl, inr, ⊎_
 use Rattle.std.specs.List.{AllByRecursion}
 use Rattle.rz_image.specs.Perm.{writes, executes}
 use Rattle.rz_image.specs.Memory.{Cell}
-use Rattle.rz_machine.specs.declared.sys.Input.{Input}
+use Rattle.rz_sys.specs.declared.input.Input.{Input}
 use Rattle.rz_image.specs.Memory.{Regions, no_cell, contains, cell_in, cell_at, code_of, NoSelfWritten}
 use Rattle.rz_elf.specs.Elf.{Image}
 use Rattle.rz_machine.specs.Start.{start, heap_region, stack_region}

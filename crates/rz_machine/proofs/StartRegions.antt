@@ -1,7 +1,8 @@
 -- The regions in which a run begins.
 use Rattle.std.proofs.Common.{◌≡◌, ℕ, ◌+◌, [], ◌∷◌, ◌++◌, length, map, refl, ap, ◌∙◌, arith, append-nil}
 use Rattle.rz_image.specs.Memory.{Ascend, zeros}
-use Rattle.rz_machine.specs.Start.{heap_region, stack_region, stack_bytes, first_rsp, empty_input}
+use Rattle.rz_sys.specs.Input.{empty_input}
+use Rattle.rz_machine.specs.Start.{heap_region, stack_region, stack_bytes, first_rsp}
 use Rattle.rz_elf.specs.Loaded.{ElfFile, loaded_region, IsRead}
 use Rattle.rz_elf.proofs.Loads.{ascend_read, low_break}
 use Rattle.rz_image.proofs.Zeros.{length-zeros, zeros-append-zeros}

@@ -1,5 +1,5 @@
 -- What a step does to memory: nothing but puts of bytes.
-use Rattle.std.proofs.Common.{ℕ, zero, suc, ◌+◌, List, [], ◌∷◌, Option, Some, None, Result, Ok, Err}
+use Rattle.std.proofs.Common.{ℕ, zero, suc, List, Option, Some, None, Result, Ok, Err}
 use Rattle.byteorder.specs.Endian.{little_bytes}
 use Rattle.rz_flags.specs.declared.Flags.{Flags}
 use Rattle.rz_machine.specs.declared.insn.Insn.{Insn}
@@ -7,26 +7,15 @@ use Rattle.rz_machine.specs.declared.decode.Decoded.{Decoded}
 use Rattle.rz_machine.specs.declared.decode.Decoded.TheVariants as decoded
 use Rattle.rz_machine.specs.declared.machine.End.{End}
 use Rattle.rz_machine.specs.declared.machine.Machine.{Machine}
-use Rattle.rz_machine.specs.declared.sys.Reply.{Reply}
-use Rattle.rz_machine.specs.declared.sys.Reply.TheVariants.{Full, AtMost, Error}
-use Rattle.rz_machine.specs.declared.sys.World.{World}
-use Rattle.rz_image.specs.Memory.{Regions, put_byte, put_bytes, wrap, refused, is_writable}
+use Rattle.rz_image.specs.Memory.{Regions, refused, is_writable}
+use Rattle.rz_image.specs.Laws.Alike.{StandsPut, puts_stand}
 use Rattle.rz_machine.specs.Insn.{Decoder, Way, Onward, Jumps, Branches, Calls, Halts, way_of}
 use Rattle.rz_machine.specs.Effect.{Access, Effect, Outcome, Goes, Stops, Done, Went, Stopped, carry, carry_out, after_reads, stored, read_words, effect_by}
-use Rattle.rz_machine.specs.Answer.{Called, Call, Write, NoFile, Exit, Other, answer, answer_as, call_in, write_allowed, write_reply, next_reply}
+use Rattle.rz_sys.specs.Answer.{Called}
+use Rattle.rz_sys.specs.Laws.Answers.{answer_stands}
 use Rattle.rz_machine.specs.State.{step, after, act, perform_by, perform_effect, running, after_done, after_exit}
 
--- a property of memory that stands under a put of one byte
-abbrev pub StandsPut : (Regions → Type 0) → Type 0
-StandsPut P = (m : Regions) (a b : ℕ) → P m → P (put_byte m a b)
-
 module _ (P : Regions → Type 0) (stands : StandsPut P) where
-  -- puts of a list of bytes
-  pub puts_stand : (m : Regions) (a : ℕ) (bs : List ℕ) → P m → P (put_bytes m a bs)
-  unfolding put_bytes
-  puts_stand m a [] h = h
-  puts_stand m a (b ∷ bs) h = puts_stand (put_byte m (wrap a) b) (a + 1) bs (stands m (wrap a) b h)
-
   -- the memory that is left of an effect
   abbrev InDone : Done → Type 0
   InDone (Went regs flags mem to) = P mem
@@ -39,7 +28,7 @@ module _ (P : Regions → Type 0) (stands : StandsPut P) where
     where
       store : (o : Option ℕ) (a : Access) (regs : List ℕ) (flags : Flags) (word : ℕ) (to : Option ℕ) → InDone (stored o m a regs flags word to)
       store (Some bad) a regs flags word to = tt
-      store None a regs flags word to = puts_stand m a.at (little_bytes a.size word) h
+      store None a regs flags word to = puts_stand P stands m a.at (little_bytes a.size word) h
 
       out : (w : Option Access) (o : Outcome) → InDone (carry_out m w o)
       out w (Stops why) = tt
@@ -49,26 +38,6 @@ module _ (P : Regions → Type 0) (stands : StandsPut P) where
       go : (r : Result (List ℕ) ℕ) → InDone (after_reads e m r)
       go (Err bad) = tt
       go (Ok words) = out e.write (e.gives words)
-
-  -- a system call leaves memory as it is
-  answer_stands : (m : Regions) (regs : List ℕ) (w : World) → P m → P (answer regs m w).mem
-  unfolding answer
-  answer_stands m regs w h = go (call_in regs) _ _ _
-    where
-      sent : (r : Reply) (at n : ℕ) → P (write_reply r at n m w).mem
-      sent Full at n = h
-      sent (AtMost k) at n = h
-      sent (Error e) at n = h
-
-      send : (o : Option ℕ) (at n : ℕ) → P (write_allowed o at n m w).mem
-      send None at n = sent (next_reply w.replies) at n
-      send (Some bad) at n = h
-
-      go : (c : Call) (a b n : ℕ) → P (answer_as c a b n m w).mem
-      go Write a b n = send _ _ _
-      go NoFile a b n = h
-      go Exit a b n = h
-      go Other a b n = h
 
   -- one step
   pub step_stands : (dec : Decoder) (s : Machine) → P s.mem → P (step dec s).mem
@@ -87,7 +56,7 @@ module _ (P : Regions → Type 0) (stands : StandsPut P) where
       effects w x next = done _ next (carry_stands s.mem (effect_by w x s.cpu.rip s.cpu.regs s.cpu.flags) h)
 
       does : (w : Way) (x : Insn) (next : ℕ) → P (perform_by w x next s).mem
-      does Calls x next = call _ _ next (answer_stands s.mem s.cpu.regs s.world h)
+      does Calls x next = call _ _ next (answer_stands P s.mem s.cpu.regs s.world h)
       does Onward x next = effects Onward x next
       does (Jumps target) x next = effects (Jumps target) x next
       does (Branches cond target) x next = effects (Branches cond target) x next

@@ -2,14 +2,15 @@
 use Rattle.std.proofs.Common.{◌≡◌, ℕ, suc, ◌+◌, ◌-◌, ◌<◌, ◌≤◌, Bool, true, false, ◌||◌, ◌==◌, nat_le, nat_lt, List, [], ◌∷◌, length, refl, sym, ap, ◌∙◌, subst, arith, eq-eqb, leb-true, ltb-true, if◌then◌else◌}
 use Rattle.std.specs.List.{AllByRecursion}
 use Rattle.std.proofs.lemmas.Bool.{and_parts}
-use Rattle.rz_machine.specs.declared.sys.Input.{Input}
+use Rattle.rz_sys.specs.declared.input.Input.{Input}
 use Rattle.rz_machine.specs.declared.trace.Record.{Record}
 use Rattle.rz_image.specs.Memory.{no_cell, contains, cell_in, cell_at}
 use Rattle.rz_machine.specs.First.{decode_first}
 use Rattle.rz_elf.specs.Elf.{Image, image_of, fault_of}
 use Rattle.rz_machine.specs.Added.{Added, added, layout_of, code_size, stubs_size}
 use Rattle.rz_machine.specs.WrittenFile.{Parts, IsAdded, new_image, written_file}
-use Rattle.rz_machine.specs.Start.{IsValid, start}
+use Rattle.rz_sys.specs.Input.{IsValid}
+use Rattle.rz_machine.specs.Start.{start}
 use Rattle.rz_machine.specs.Thin.{IsThin, thin_base, thin_file}
 use Rattle.rz_machine.specs.Keeps.{KeepsRun}
 use Rattle.rz_machine.specs.Rewritable.{IsRewritable, IsAscending, has_node}

@@ -12,7 +12,7 @@ use Rattle.rz_machine.specs.declared.machine.Machine.{Machine}
 use Rattle.rz_image.specs.Memory.{Regions, wrap}
 use Rattle.rz_machine.specs.Insn.{Decoder, Way, Onward, Jumps, Branches, Calls, Halts, way_of, kind_in, target_in, direct_by, direct}
 use Rattle.rz_machine.specs.Effect.{Done, Went, Stopped, plain_effect, plainly, effect_by, carry, read_words}
-use Rattle.rz_machine.specs.Answer.{Called}
+use Rattle.rz_sys.specs.Answer.{Called}
 use Rattle.rz_machine.specs.State.{step, after, act, perform, perform_by, perform_effect, running, after_done, after_exit, onward, decoded_at}
 use Rattle.rz_machine.specs.Begun.{begun_by, begun_at, begun, neighbours}
 use Rattle.rz_machine.specs.Nodes.{IsNode, spelled_at, is_site_at, direct_at}

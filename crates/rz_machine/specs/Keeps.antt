@@ -4,13 +4,14 @@ use Rattle.std.specs.List.{list_any}
 use Rattle.rz_machine.specs.declared.machine.End.{End}
 use Rattle.rz_machine.specs.declared.machine.End.TheVariants as end
 use Rattle.rz_machine.specs.declared.machine.Machine.{Machine}
-use Rattle.rz_machine.specs.declared.sys.Input.{Input}
+use Rattle.rz_sys.specs.declared.input.Input.{Input}
 use Rattle.rz_machine.specs.declared.trace.Record.{Record}
 use Rattle.rz_image.specs.Memory.{Range, IsInside, Alike}
 use Rattle.rz_machine.specs.Insn.{Decoder}
 use Rattle.rz_elf.specs.Elf.{image_of}
 use Rattle.rz_machine.specs.State.{step, after}
-use Rattle.rz_machine.specs.Start.{IsValid, start}
+use Rattle.rz_sys.specs.Input.{IsValid}
+use Rattle.rz_machine.specs.Start.{start}
 use Rattle.rz_machine.specs.Touches.{RunClear}
 use Rattle.rz_machine.specs.Added.{Layout, layout_of}
 

@@ -1,6 +1,5 @@
 pub mod Insn
 pub mod Effect
-pub mod Answer
 pub mod State
 pub mod Touches
 pub mod Start
@@ -19,7 +18,6 @@ pub mod LeftCode
 pub mod Traced
 pub mod TableLaws
 pub mod FirstLaws
-pub mod Left
 pub mod Ran
 pub mod ThinElf
 pub mod ThinFault

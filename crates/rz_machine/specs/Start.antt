@@ -1,40 +1,15 @@
 -- The opening state of an accepted file on a valid input
 -- (after the System V ABI for x86-64, section 3.4.1, "Initial Stack and Register State", without environment or auxiliary entries).
-use Rattle.std.specs.Prelude.{◌≡◌, ℕ, ◌+◌, ◌-◌, ◌*◌, ◌%◌, ◌^◌, ◌<◌, ◌≤◌, false, List, [], ◌∷◌, ◌++◌, length, set, replicate, flat_map, None}
-use Rattle.std.specs.List.{AllByRecursion}
+use Rattle.std.specs.Prelude.{ℕ, ◌+◌, ◌-◌, ◌*◌, ◌%◌, ◌^◌, false, List, [], ◌∷◌, ◌++◌, length, set, replicate, flat_map, None}
 use Rattle.byteorder.specs.Endian.{little_bytes}
 use Rattle.rz_flags.specs.declared.Flags.{Flags}
 use Rattle.rz_machine.specs.declared.machine.Machine.{Machine}
 use Rattle.rz_image.specs.Perm.{read_write}
 use Rattle.rz_image.specs.declared.region.Region.{Region}
-use Rattle.rz_machine.specs.declared.sys.Input.{Input}
-use Rattle.rz_machine.specs.declared.sys.Reply.{Reply}
-use Rattle.rz_machine.specs.declared.sys.Reply.TheVariants.{Full, AtMost, Error}
+use Rattle.rz_sys.specs.declared.input.Input.{Input}
+use Rattle.rz_sys.specs.Input.{strings}
 use Rattle.rz_image.specs.Memory.{zeros}
 use Rattle.rz_elf.specs.Elf.{Image}
-
--- the argument strings, each with its zero byte
-abbrev pub strings : List (List ℕ) → List ℕ
-strings args = flat_map (λ arg. arg ++ 0 ∷ []) args
-
-abbrev pub IsValidReply : Reply → Type 0
-IsValidReply Full = Unit {0}
-IsValidReply (AtMost k) = 0 < k
-IsValidReply (Error e) = (0 < e) × (e ≤ 4095)
-
--- the inputs that a run may be given
-pub record IsValid (input : Input) : Type 0 where
-  pub no_zeros : AllByRecursion (λ arg. AllByRecursion (λ b. (0 < b) × (b < 256)) arg) input.args
-  pub few : length (strings input.args) ≤ 65536
-  pub replies : AllByRecursion IsValidReply input.replies
-  pub stdin : AllByRecursion (λ b. b < 256) input.stdin
-
--- no arguments, no input and no replies
-abbrev pub IsEmptyInput : Input → Type 0
-IsEmptyInput input = (input.args ≡ []) × (input.stdin ≡ []) × (input.replies ≡ [])
-
-abbrev pub empty_input : Input
-empty_input = record { args = []; stdin = []; replies = [] }
 
 abbrev pub stack_base : ℕ
 stack_base = 0x7fffffeff000

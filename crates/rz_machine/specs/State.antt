@@ -11,7 +11,7 @@ use Rattle.rz_machine.specs.declared.machine.Machine.{Machine}
 use Rattle.rz_image.specs.Memory.{fetch, wrap}
 use Rattle.rz_machine.specs.Insn.{Decoder, Way, Calls, way_of}
 use Rattle.rz_machine.specs.Effect.{effect_by, carry, Done, Went, Stopped}
-use Rattle.rz_machine.specs.Answer.{Called, answer, world_after}
+use Rattle.rz_sys.specs.Answer.{Called, answer, world_after}
 
 abbrev pub stopped : End → Machine → Machine
 stopped why s = record s { end = Some why }

@@ -7,7 +7,7 @@ use Rattle.rz_machine.specs.declared.machine.Machine.{Machine}
 use Rattle.rz_image.specs.Memory.{Range}
 use Rattle.rz_machine.specs.Insn.{Decoder, Way, Calls, way_of}
 use Rattle.rz_machine.specs.Effect.{effect_by, EffectClear}
-use Rattle.rz_machine.specs.Answer.{call_in, cut_count, rsi, rdx, CallClear}
+use Rattle.rz_sys.specs.Answer.{call_in, cut_count, rsi, rdx, CallClear}
 use Rattle.rz_machine.specs.State.{decoded_at, after}
 
 abbrev pub WayClear : Range → Way → Insn → Machine → Type 0

@@ -1,7 +1,6 @@
 //! The written machine: its definitions, the machine that runs, and the tracer.
 #![tactic(auto)]
 
-pub mod call;
 pub mod decode;
 pub mod elf_law;
 pub mod elf_write;
@@ -13,7 +12,6 @@ pub mod kinds;
 pub mod law;
 pub mod machine;
 pub mod start;
-pub mod sys;
 pub mod table;
 pub mod thin;
 pub mod trace;

@@ -4,10 +4,10 @@ ghost use Rattle.std.specs.Prelude.{◌≡◌};
 ghost use Rattle.rz_machine.specs.Effect.{written as written_over, is_written};
 ghost use Rattle.rz_machine.specs.TableLaws.{AreBytes};
 
-use crate::call::syscall;
+use rz_sys::call::syscall;
 use crate::decode::Decoded;
 use crate::insn::{Insn, Operand, Place, Reg};
-use crate::sys::World;
+use rz_sys::world::World;
 use crate::table::InsnTable;
 use rz_alu::arith;
 use rz_flags::{ArithOp, Cond, Flags, holds, to_word};
@@ -69,7 +69,7 @@ pub enum Outcome {
 impl Machine {
     ghost use Rattle.std.specs.Prelude.{◌≡◌, ◌<◌, ℕ, OnOk, OnErr, IfOk};
     ghost use Rattle.rz_machine.specs.State.{step as step_of, after as after_of, perform as perform_of, after_call};
-    ghost use Rattle.rz_machine.specs.Answer.{answer};
+    ghost use Rattle.rz_sys.specs.Answer.{answer};
     ghost use Rattle.rz_machine.specs.declared.insn.Reg.TheVariants.{R};
     ghost use Rattle.rz_machine.specs.declared.insn.Place.TheVariants as place;
     ghost use Rattle.rz_machine.specs.declared.insn.Operand.TheVariants.{Imm};

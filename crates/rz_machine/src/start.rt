@@ -3,11 +3,14 @@
 ghost use Rattle.std.specs.Prelude.{◌≡◌, ◌≤◌, ◌<◌, ◌+◌, ◌-◌, ◌++◌, length, map, IfOk};
 ghost use Rattle.std.specs.List.{AllByRecursion};
 ghost use Rattle.rz_image.specs.Memory.{Ascend, zeros};
-ghost use Rattle.rz_machine.specs.Start.{IsEmptyInput, empty_input, start as start_of, first_regs, heap_region, stack_region};
+ghost use Rattle.rz_sys.specs.Input.{IsEmptyInput, empty_input};
+ghost use Rattle.rz_machine.specs.Start.{start as start_of, first_regs, heap_region, stack_region};
 ghost use Rattle.rz_elf.specs.Loaded.{IsLoad, loaded, loaded_region};
 
 use crate::machine::{Cpu, Machine};
-use crate::sys::{Events, Input, Replies, World};
+use rz_sys::event::Events;
+use rz_sys::input::{Input, Replies};
+use rz_sys::world::World;
 use rz_elf::elf::{Elf, Load};
 use rz_flags::Flags;
 use rz_image::memory::Memory;

@@ -114,7 +114,7 @@ mod tests {
     use crate::first::First;
     use crate::machine::{End, Outcome};
     use crate::start::start;
-    use crate::sys::Input;
+    use rz_sys::input::Input;
     use std::test::Fail;
 
     const HEADERS: [u8; 120] = [

@@ -9,12 +9,13 @@ ghost use Rattle.rz_machine.specs.Traced.{with_run, IsRefused};
 ghost use Rattle.rz_machine.specs.Recorded.{StandsIn, IsUncut};
 ghost use Rattle.rz_machine.specs.Rewritable.{IsRewritable};
 ghost use Rattle.rz_image.specs.Memory.{NoSelfWritten};
-ghost use Rattle.rz_machine.specs.Start.{start as start_of, IsEmptyInput};
+ghost use Rattle.rz_sys.specs.Input.{IsEmptyInput};
+ghost use Rattle.rz_machine.specs.Start.{start as start_of};
 ghost use Rattle.rz_elf.specs.Loaded.{loaded};
 
 use crate::machine::{End, Machine};
 use crate::start::start;
-use crate::sys::Input;
+use rz_sys::input::Input;
 use crate::table::InsnTable;
 use rz_elf::elf::Elf;
 use rz_num::{OutOfMemory, Pairs, Words};

@@ -1,7 +1,7 @@
 // Traces of worked programs, and the calls that take memory where there is enough.
 
 use crate::first::First;
-use crate::sys::Input;
+use rz_sys::input::Input;
 use crate::thin::read_thin;
 use crate::trace::{AddrSet, EdgeSet, Record, TraceRefusal, trace};
 use rz_elf::elf::Elf;

@@ -1,6 +1,7 @@
 use Rattle.std.proofs.Common.{◌≡◌, Some, sym, ◌∙◌}
-use Rattle.rz_machine.specs.Answer.{answer}
-use Rattle.rz_machine.proofs.Calls.{answer-mem, call_ends}
+use Rattle.rz_sys.specs.Answer.{answer}
+use Rattle.rz_sys.specs.Laws.Answers.{answer-mem}
+use Rattle.rz_machine.proofs.Calls.{call_ends}
 use Rattle.rz_machine.proofs.machine.Machine.call.Goals as goal
 
 pub returns-in-Some-clause-ok : goal.returns-in-Some-clause-ok

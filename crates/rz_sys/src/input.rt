@@ -1,4 +1,4 @@
-//! System calls: their input, their events, and what they leave.
+//! What a run is given: arguments, standard input, and the replies to its calls.
 
 ghost use Rattle.std.specs.Prelude.{List, ℕ};
 
@@ -26,7 +26,7 @@ pub struct Replies {
 
 impl Model for Replies {
     ghost use Rattle.std.specs.Prelude.{List};
-    ghost use Rattle.rz_machine.specs.declared.sys.Reply.{Reply};
+    ghost use Rattle.rz_sys.specs.declared.input.Reply.{Reply};
 
     ghost Value = { List Reply };
 
@@ -35,7 +35,7 @@ impl Model for Replies {
 
 impl Replies {
     ghost use Rattle.std.specs.Prelude.{◌≡◌, [], ◌∷◌, ◌++◌, OnOk, OnErr};
-    ghost use Rattle.rz_machine.specs.Answer.{next_reply, later_replies};
+    ghost use Rattle.rz_sys.specs.Answer.{next_reply, later_replies};
 
     /// No replies: then each call is answered whole. It takes no memory.
     pub fn new(alloc: Global) -> Replies
@@ -124,7 +124,7 @@ pub struct Input {
 
 impl Input {
     ghost use Rattle.std.specs.Prelude.{◌≡◌};
-    ghost use Rattle.rz_machine.specs.Start.{empty_input};
+    ghost use Rattle.rz_sys.specs.Input.{empty_input};
 
     /// No arguments, no standard input and no replies. It takes no memory.
     pub fn empty(alloc: Global) -> Input
@@ -136,73 +136,6 @@ impl Input {
             replies: Replies::new(alloc),
         }
     }
-}
-
-/// A system call as it was made and answered: its number, its three arguments, the answer, and the bytes that it moved.
-#[derive(Drop)]
-pub struct Event {
-    pub number: u64,
-    pub args: [u64; 3],
-    pub answer: u64,
-    pub bytes: Bytes,
-}
-
-/// The calls so far, the first one first.
-#[derive(Drop)]
-pub struct Events {
-    items: Vec<Event>,
-}
-
-impl Model for Events {
-    ghost use Rattle.std.specs.Prelude.{List};
-    ghost use Rattle.rz_machine.specs.declared.sys.Event.{Event};
-
-    ghost Value = { List Event };
-
-    ghost view = { λ e. e.items.items };
-}
-
-impl Events {
-    ghost use Rattle.std.specs.Prelude.{◌≡◌, [], ◌∷◌, ◌++◌, OnOk, OnErr};
-
-    /// No events. It takes no memory.
-    pub fn new(alloc: Global) -> Events
-        ensures { result ≡ [] }
-    {
-        Events {
-            items: Vec::new(alloc),
-        }
-    }
-
-    /// Appends an event. It refuses for want of memory alone, and then the list is unchanged.
-    pub fn push(&mut self, event: Event) -> Result<(), OutOfMemory>
-        ensures ok { OnOk result (self.new ≡ self.old ++ event ∷ []) }
-        ensures err { OnErr result (self.new ≡ self.old) }
-    {
-        self.items.push(event)?;
-        Ok(())
-    }
-
-    /// The events as a slice.
-    pub fn as_slice(&self) -> &[Event]
-        ensures { result.now ≡ self.now }
-    {
-        self.items.as_slice()
-    }
-}
-
-/// What system calls read and leave, memory and registers aside.
-#[derive(Drop)]
-pub struct World {
-    /// The rest of the input.
-    pub stdin: Bytes,
-    /// The rest of the replies.
-    pub replies: Replies,
-    pub events: Events,
-    /// The address where the heap begins.
-    pub first_break: u64,
-    /// The address where the open part of the heap ends.
-    pub brk: u64,
 }
 
 #[cfg(test)]

@@ -1,12 +1,14 @@
 //! System calls: what they answer, record and leave.
 
 ghost use Rattle.std.specs.Prelude.{◌≡◌, ◌≤◌, ◌+◌, ◌^◌, set, IfOk, OnOk, OnErr};
-ghost use Rattle.rz_machine.specs.declared.sys.World.{World};
+ghost use Rattle.rz_sys.specs.declared.world.World.{World};
 ghost use Rattle.rz_image.specs.Memory.{bytes_at};
-ghost use Rattle.rz_machine.specs.Answer.{answer as answer_of, answer_as, negative as negative_of, write_reply as write_reply_of, world_after, rdi, rsi, rdx, Write};
-ghost use Rattle.rz_machine.specs.Left.{regs_left, recorded_call};
+ghost use Rattle.rz_sys.specs.Answer.{answer as answer_of, answer_as, negative as negative_of, write_reply as write_reply_of, world_after, regs_left, rdi, rsi, rdx, Write};
+ghost use Rattle.rz_sys.specs.Calls.Recorded.{recorded_call};
 
-use crate::sys::{Event, Reply, World};
+use crate::event::Event;
+use crate::input::Reply;
+use crate::world::World;
 use rz_image::memory::Memory;
 use rz_num::{Bytes, OutOfMemory};
 use std::alloc::Global;

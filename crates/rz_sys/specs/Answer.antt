@@ -1,10 +1,10 @@
 -- System calls: the number in RAX, the arguments in RDI, RSI and RDX
 -- (System V ABI for x86-64, section A.2.1, "Calling Conventions" of the kernel).
-use Rattle.std.specs.Prelude.{ℕ, ◌+◌, ◌-◌, ◌%◌, ◌^◌, ◌<◌, Bool, true, false, ◌||◌, if◌then◌else◌, nat_le, ◌==◌, List, [], ◌∷◌, ◌++◌, get_or, min, Option, Some, None}
-use Rattle.rz_machine.specs.declared.sys.Reply.{Reply}
-use Rattle.rz_machine.specs.declared.sys.Reply.TheVariants.{Full, AtMost, Error}
-use Rattle.rz_machine.specs.declared.sys.Event.{Event}
-use Rattle.rz_machine.specs.declared.sys.World.{World}
+use Rattle.std.specs.Prelude.{ℕ, ◌+◌, ◌-◌, ◌%◌, ◌^◌, ◌<◌, Bool, true, false, ◌||◌, if◌then◌else◌, nat_le, ◌==◌, List, [], ◌∷◌, ◌++◌, get_or, set, min, Option, Some, None}
+use Rattle.rz_sys.specs.declared.input.Reply.{Reply}
+use Rattle.rz_sys.specs.declared.input.Reply.TheVariants.{Full, AtMost, Error}
+use Rattle.rz_sys.specs.declared.event.Event.{Event}
+use Rattle.rz_sys.specs.declared.world.World.{World}
 use Rattle.rz_image.specs.Memory.{Regions, Range, IsOutside, refused, is_readable, bytes_at}
 
 -- RAX, RCX, RDX, RSI, RDI and R11, by their numbers (Intel SDM, volume 2, table 3-1)
@@ -113,6 +113,14 @@ event_of regs c =
 
 abbrev pub world_after : List ℕ → World → Called → World
 world_after regs w c = record w { stdin = c.stdin; replies = c.replies; events = w.events ++ event_of regs c ∷ [] }
+
+abbrev pub answer_put : Option ℕ → List ℕ → ℕ → List ℕ
+answer_put None regs ans = set regs 0 ans
+answer_put (Some status) regs ans = regs
+
+-- RAX is the answer, but where the call ends the run
+abbrev pub regs_left : List ℕ → Called → List ℕ
+regs_left regs c = answer_put c.exit regs c.answer
 
 -- the bytes below 2^64 of the cut range of a call that looks at memory are outside the range
 abbrev pub CallClear : Range → Call → ℕ → ℕ → Type 0

@@ -1,0 +1,4 @@
+pub mod Input
+pub mod Answer
+pub mod Calls
+pub mod Laws
