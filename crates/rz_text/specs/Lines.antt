@@ -12,8 +12,12 @@ lines_of_pieces (piece ∷ next ∷ more) = piece ∷ lines_of_pieces (next ∷ 
 abbrev pub lines : List ℕ → List (List ℕ)
 lines text = lines_of_pieces (slice_split (λ b. b == 10) text)
 
+-- a line with its number
+abbrev pub Line : Type 0
+Line = ℕ × List ℕ
+
 -- the lines with their numbers, of which the first is given
-abbrev pub lines_from : ℕ → List ℕ → List (ℕ × List ℕ)
+abbrev pub lines_from : ℕ → List ℕ → List Line
 lines_from n text = enumerate_from n (lines text)
 
 -- the words of a line: the pieces between its spaces, empty ones too
@@ -24,6 +28,10 @@ words line = slice_split (λ b. b == 32) line
 abbrev pub has_content : List ℕ → Bool
 has_content line = not (length line == 0 || slice_index line 0 == 35)
 
+-- the lines among some that say something
+abbrev pub content_of : List Line → List Line
+content_of numbered = filter (λ l. has_content l.1) numbered
+
 -- the lines of a text that say something, with their numbers from 1
-abbrev pub content : List ℕ → List (ℕ × List ℕ)
-content text = filter (λ l. has_content l.1) (lines_from 1 text)
+abbrev pub content : List ℕ → List Line
+content text = content_of (lines_from 1 text)

@@ -4,7 +4,7 @@
 mod line;
 mod number;
 
-pub use line::{Lines, has_content, word};
+pub use line::{Lines, TEXT_MAX, has_content, word};
 pub use number::{decimal, hexadecimal};
 
 #[cfg(test)]

@@ -6,6 +6,9 @@ ghost use Rattle.rz_text.specs.Lines.{lines, lines_from, words, has_content as s
 
 use std::marker::Model;
 
+/// The most bytes of a text that is read.
+pub const TEXT_MAX: usize = 16_777_216;
+
 // What ends a line.
 const LINE_END: u8 = b'\n';
 
