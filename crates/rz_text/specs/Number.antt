@@ -31,8 +31,8 @@ abbrev pub refused_at : Option ℕ → Result ℕ ℕ → Result ℕ ℕ
 refused_at (Some place) value = Err place
 refused_at None value = value
 
-abbrev pub decimal : List ℕ → Result ℕ ℕ
+unfoldable pub decimal : List ℕ → Result ℕ ℕ
 decimal word = refused_at (wrong_place decimal_has word) (value_behind 0 10 word)
 
-abbrev pub hexadecimal : List ℕ → Result ℕ ℕ
+unfoldable pub hexadecimal : List ℕ → Result ℕ ℕ
 hexadecimal word = refused_at (wrong_place hexadecimal_has word) (value_behind 2 16 word)

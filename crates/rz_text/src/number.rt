@@ -15,6 +15,7 @@ const HEXADECIMAL_DIGITS: usize = 16;
 
 /// The number that a word of 1 to 20 decimal digits makes. The error is the place of the first byte that no number has there, or the
 /// length where digits are missing or the number is above 2^64 - 1.
+#[tactic(auto, unfolding(crate::specs::Number::decimal))]
 pub fn decimal(word: &[u8]) -> Result<u64, usize>
     ensures { result ≡ decimal word.now }
 {
@@ -25,6 +26,7 @@ pub fn decimal(word: &[u8]) -> Result<u64, usize>
 }
 
 /// The number that `0x` and 1 to 16 hexadecimal digits of either case make. The error is as for `decimal`.
+#[tactic(auto, unfolding(crate::specs::Number::hexadecimal))]
 pub fn hexadecimal(word: &[u8]) -> Result<u64, usize>
     ensures { result ≡ hexadecimal word.now }
 {
