@@ -96,10 +96,12 @@ impl Classes {
         let at = self.functions.len();
         let lo = function.lo;
         self.functions.push(function)?;
-        if self.starts.insert(lo, at as u32).is_err() {
-            self.functions.truncate(at);
-            return Err(OutOfMemory);
+        match self.starts.insert(lo, at as u32) {
+            Ok(_) => Ok(()),
+            Err(_) => {
+                self.functions.truncate(at);
+                Err(OutOfMemory)
+            }
         }
-        Ok(())
     }
 }
