@@ -1,6 +1,6 @@
 // A line of a class file.
 
-ghost use Rattle.std.specs.Prelude.{◌≡◌, ◌≢◌, [], ◌∷◌, length, MatchOption, Some, None, Ok};
+ghost use Rattle.std.specs.Prelude.{◌≡◌, ◌≢◌, ◌<◌, [], ◌∷◌, length, MatchOption, IfSome, Some, None, Ok};
 ghost use Rattle.std.specs.List.{list_all};
 ghost use Rattle.rz_text.specs.Lines.{words};
 ghost use Rattle.rz_classes.specs.Grammar.{is_class, is_visible, function_from, function_of, function_of_words};
@@ -20,7 +20,8 @@ pub struct Entry<'a> {
 
 /// What a line lists, where it is in the grammar `fn LO HI CLASS`.
 pub fn entry_of(line: &[u8]) -> Option<Entry<'_>>
-    ensures { MatchOption result (function_of (words line.now) ≡ None) (λ e. function_of (words line.now) ≡ Some (record { lo = e.lo; hi = e.hi; class = e.class.now })) }
+    ensures ordered { IfSome result (λ e. e.lo < e.hi) }
+    ensures value { MatchOption result (function_of (words line.now) ≡ None) (λ e. function_of (words line.now) ≡ Some (record { lo = e.lo; hi = e.hi; class = e.class.now })) }
 {
     match four_words(line) {
         Some((key, lo, hi, class)) => entry_of_words(key, lo, hi, class),
@@ -30,7 +31,8 @@ pub fn entry_of(line: &[u8]) -> Option<Entry<'_>>
 
 // What four words list.
 fn entry_of_words<'a>(key: &[u8], lo: &[u8], hi: &[u8], class: &'a [u8]) -> Option<Entry<'a>>
-    ensures { MatchOption result (function_of_words key.now lo.now hi.now class.now ≡ None) (λ e. function_of_words key.now lo.now hi.now class.now ≡ Some (record { lo = e.lo; hi = e.hi; class = e.class.now })) }
+    ensures ordered { IfSome result (λ e. e.lo < e.hi) }
+    ensures value { MatchOption result (function_of_words key.now lo.now hi.now class.now ≡ None) (λ e. function_of_words key.now lo.now hi.now class.now ≡ Some (record { lo = e.lo; hi = e.hi; class = e.class.now })) }
 {
     if key != b"fn".as_slice() {
         return None;
@@ -53,7 +55,8 @@ fn four_words(line: &[u8]) -> Option<(&[u8], &[u8], &[u8], &[u8])>
 
 // What two numbers and a class list: the range isn't empty, and the word names a class.
 fn entry_from(lo: u64, hi: u64, class: &[u8]) -> Option<Entry<'_>>
-    ensures { MatchOption result (function_from (Ok lo) (Ok hi) class.now ≡ None) (λ e. function_from (Ok lo) (Ok hi) class.now ≡ Some (record { lo = e.lo; hi = e.hi; class = e.class.now })) }
+    ensures ordered { IfSome result (λ e. e.lo < e.hi) }
+    ensures value { MatchOption result (function_from (Ok lo) (Ok hi) class.now ≡ None) (λ e. function_from (Ok lo) (Ok hi) class.now ≡ Some (record { lo = e.lo; hi = e.hi; class = e.class.now })) }
 {
     if lo < hi && is_class(class) {
         Some(Entry { lo, hi, class })

@@ -1,10 +1,12 @@
 -- The first line of a text.
-use Rattle.std.proofs.Common.{◌≡◌, ℕ, ◌+◌, ◌<◌, ◌==◌, false, List, [], ◌∷◌, length, take, drop, Some, None, refl, arith}
+use Rattle.std.proofs.Common.{◌≡◌, ℕ, ◌+◌, ◌<◌, ◌≤◌, ◌==◌, false, List, [], ◌∷◌, length, take, drop, Some, None, refl, arith}
 use Rattle.std.specs.Prelude.{position}
 use Rattle.std.specs.List.{slice_split, position_or_len}
 use Rattle.std.proofs.lemmas.List.Splits.{slice_split_first, slice_split_none, length-slice_split}
 use Rattle.std.proofs.lemmas.List.Elements.{All-from_get_or}
-use Rattle.rz_text.specs.Lines.{lines, lines_of_pieces}
+use Rattle.std.proofs.lemmas.List.FromFn.{length-enumerate_from}
+use Rattle.std.proofs.lemmas.List.Sums.{count_by-le-length}
+use Rattle.rz_text.specs.Lines.{lines, lines_from, lines_of_pieces}
 use Rattle.rz_text.proofs.Places.{position-some, position-none}
 
 -- a piece with pieces behind it is a line
@@ -29,3 +31,23 @@ pub lines-last : (text : List ℕ) → position (λ b. b == 10) text ≡ None �
 lines-last text h some =
     let whole = slice_split_none (λ (b : ℕ). b == 10) text (All-from_get_or (λ (b : ℕ). (b == 10) ≡ false) text 0 (position-none (λ (b : ℕ). b == 10) text 0 h)) in
     rw whole (lines_of_pieces-last text some)
+
+-- ---- how many lines
+
+length-last : (piece : List ℕ) → length (lines_of_pieces (piece ∷ [])) ≤ 1
+length-last piece = grind arith
+
+length-lines_of_pieces : (pieces : List (List ℕ)) → length (lines_of_pieces pieces) ≤ length pieces
+length-lines_of_pieces [] = omega arith
+length-lines_of_pieces (piece ∷ []) = length-last piece
+length-lines_of_pieces (piece ∷ next ∷ more) = let fewer = length-lines_of_pieces (next ∷ more) in omega (arith, fewer)
+
+-- a text has at most one more line than bytes
+pub length-lines_from : (n : ℕ) (text : List ℕ) → length (lines_from n text) ≤ length text + 1
+length-lines_from n text =
+    let pieces = slice_split (λ (b : ℕ). b == 10) text in
+    let numbered = length-enumerate_from n (lines text) in
+    let fewer = length-lines_of_pieces pieces in
+    let count = length-slice_split (λ (b : ℕ). b == 10) text in
+    let most = count_by-le-length (λ (b : ℕ). b == 10) text in
+    omega (arith, numbered, fewer, count, most)
