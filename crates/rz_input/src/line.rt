@@ -21,11 +21,18 @@ const ERROR_MAX: u64 = 4095;
 pub fn entry_of(alloc: Global, line: &[u8]) -> Result<Option<Entry>, OutOfMemory>
     ensures { IfOk result (λ entry. entry ≡ entry_said (words line.now)) }
 {
-    match (word(line, 0), word(line, 1), word(line, 2), word(line, 3)) {
-        (Some(key), None, _, _) => entry_of_one(alloc, key),
-        (Some(key), Some(value), None, _) => entry_of_two(alloc, key, value),
-        (Some(key), Some(kind), Some(number), None) => Ok(entry_of_three(key, kind, number)),
-        _ => Ok(None),
+    let Some(key) = word(line, 0) else {
+        return Ok(None);
+    };
+    let Some(value) = word(line, 1) else {
+        return entry_of_one(alloc, key);
+    };
+    let Some(number) = word(line, 2) else {
+        return entry_of_two(alloc, key, value);
+    };
+    match word(line, 3) {
+        Some(_) => Ok(None),
+        None => Ok(entry_of_three(key, value, number)),
     }
 }
 
