@@ -1,5 +1,5 @@
 -- Words of which each byte is a number's at its place.
-use Rattle.std.proofs.Common.{◌≡◌, ℕ, suc, ◌+◌, ◌<◌, ◌≤◌, ◌&&◌, ◌==◌, not, Bool, true, false, List, [], ◌∷◌, length, get_or, drop, nat_lt, None, refl, zero-add, length-drop, get_or-drop, arith}
+use Rattle.std.proofs.Common.{◌≡◌, ℕ, zero, suc, ◌^◌, ◌+◌, ◌<◌, ◌≤◌, ◌&&◌, ◌==◌, not, Bool, true, false, List, [], ◌∷◌, length, get_or, drop, nat_lt, None, Ok, refl, zero-add, length-drop, get_or-drop, arith}
 use Rattle.std.specs.Str.Parse.{AllDigits, without_leading_plus}
 use Rattle.std.specs.Str.{IsAscii}
 use Rattle.std.specs.Char.{digit_value}
@@ -8,9 +8,11 @@ use Rattle.std.proofs.lemmas.List.FromFn.{length-enumerate_from, get_or-enumerat
 use Rattle.std.proofs.lemmas.Str.Ascii.{IsAscii-nil, IsAscii-cons}
 use Rattle.std.proofs.lemmas.Str.Parse.{without_leading_plus_none}
 use borrow.Author.Tests.{ltb-true}
-use Rattle.std.proofs.lemmas.Bool.{and_parts}
-use Rattle.rz_text.specs.Number.{decimal_has, hexadecimal_has, wrong_place}
-use Rattle.rz_text.proofs.Places.{position-none}
+use Rattle.std.specs.Fmt.{digits}
+use Rattle.std.proofs.lemmas.Fmt.{decimal_is_IsNumeral, length-decimal-le}
+use Rattle.std.proofs.lemmas.Bool.{and_parts, lt-ltb}
+use Rattle.rz_text.specs.Number.{decimal_has, hexadecimal_has, decimal, wrong_place}
+use Rattle.rz_text.proofs.Places.{position-absent, position-none}
 
 not_false : (b : Bool) → not b ≡ false → b ≡ true
 not_false true h = refl
@@ -56,3 +58,34 @@ IsAscii-digits radix (c ∷ cs) h all = IsAscii-cons c cs (let first = all.0 in 
 pub without_leading_plus-digits : (radix : ℕ) (digits : List ℕ) → radix ≤ 36 → AllDigits radix digits → without_leading_plus digits ≡ digits
 without_leading_plus-digits radix [] h all = refl
 without_leading_plus-digits radix (c ∷ cs) h all = without_leading_plus_none (c ∷ cs) (λ plus. let first = all.0 in grind arith)
+
+-- ---- printed numbers
+
+each_digit : (radix : ℕ) (digits : List ℕ) → AllDigits radix digits → (k : ℕ) → k < length digits → digit_value (get_or digits k 0) < radix
+each_digit radix [] all k below = absurd (omega arith)
+each_digit radix (c ∷ cs) all zero below = all.0
+each_digit radix (c ∷ cs) all (suc k) below = each_digit radix cs all.1 k (omega arith)
+
+decimal_has-digit : (k c : ℕ) → k < 20 → digit_value c < 10 → not (decimal_has k c) ≡ false
+decimal_has-digit k c place digit =
+    let first : nat_lt k 20 ≡ true = grind arith in
+    let second : nat_lt (digit_value c) 10 ≡ true = lt-ltb (digit_value c) 10 digit in
+    rw (first, second) refl
+
+-- a printed number is read as itself
+pub decimal-printed : (n : ℕ) → n < 2 ^ 64 → decimal (digits 10 false n) ≡ Ok n
+unfolding decimal
+decimal-printed n fits =
+    let word = digits 10 false n in
+    let numeral = decimal_is_IsNumeral n fits in
+    let short = length-decimal-le 20 n (omega arith) (omega arith) fits in
+    let len = length-enumerate_from 0 word in
+    let right : wrong_place decimal_has word ≡ None = position-absent (λ (x : ℕ × ℕ). not (decimal_has x.0 x.1)) (enumerate_from 0 word) (0, 0)
+    (λ k below.
+        let inside : k < length word = omega (arith, len) in
+        let at = get_or-enumerate_from 0 word k (0, 0) inside in
+        let start = zero-add k in
+        rw (at, start) (decimal_has-digit k (get_or word k 0) (omega (arith, short, inside)) (each_digit 10 word numeral.0.1 k inside))) in
+    let some : nat_lt 0 (length word) ≡ true = lt-ltb 0 (length word) numeral.0.0 in
+    let small : nat_lt n (2 ^ 64) ≡ true = lt-ltb n (2 ^ 64) fits in
+    rw (right, numeral.1, some, small) refl
