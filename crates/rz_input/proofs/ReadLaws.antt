@@ -40,10 +40,10 @@ IsDraft-pass text input line rest so_far h = record {
   value = so_far.value;
 }
 
-abbrev input_with : List (List ℕ) → List ℕ → List ReplyOf → Input
+abbrev pub input_with : List (List ℕ) → List ℕ → List ReplyOf → Input
 input_with args stdin replies = record { args = args; stdin = stdin; replies = replies }
 
-input_same : (args args' : List (List ℕ)) (stdin stdin' : List ℕ) (replies replies' : List ReplyOf) → args ≡ args' → stdin ≡ stdin' → replies ≡ replies'
+pub input_same : (args args' : List (List ℕ)) (stdin stdin' : List ℕ) (replies replies' : List ReplyOf) → args ≡ args' → stdin ≡ stdin' → replies ≡ replies'
     → input_with args stdin replies ≡ input_with args' stdin' replies'
 input_same args args' stdin stdin' replies replies' e f g = rw (e, f, g) refl
 
@@ -66,7 +66,7 @@ input_from-some : (es : List Entry) (o : Option Entry) → input_from (es ++ con
 input_from-some es None = ap input_from (append-nil es)
 input_from-some es (Some e) = input_from-one es e
 
-input_from-more : (earlier : List Line) (line : Line) → input_from (entries (earlier ++ line ∷ [])) ≡ with_some (input_from (entries earlier)) (entry_of (words line.1))
+pub input_from-more : (earlier : List Line) (line : Line) → input_from (entries (earlier ++ line ∷ [])) ≡ with_some (input_from (entries earlier)) (entry_of (words line.1))
 input_from-more earlier line =
     ap input_from (filter_map-append (λ (l : Line). entry_of (words l.1)) earlier (line ∷ []))
     ∙ input_from-some (entries earlier) (entry_of (words line.1))

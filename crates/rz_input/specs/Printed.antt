@@ -1,11 +1,13 @@
 -- The text of an input: the arguments, then the bytes of the standard input, 32 on a line, then the replies.
-use Rattle.std.specs.Prelude.{ℕ, zero, suc, false, List, [], ◌∷◌, ◌++◌, codes, drop, flat_map, length, map, take}
+use Rattle.std.specs.Prelude.{◌≡◌, None, ℕ, zero, suc, false, List, [], ◌∷◌, ◌++◌, codes, drop, flat_map, length, map, take}
 use Rattle.std.specs.List.{join_with_byte}
 use Rattle.std.specs.Fmt.{digits}
 use Rattle.hex.specs.Hex.{encode_lower}
 use Rattle.rz_sys.specs.declared.input.Input.{Input}
 use Rattle.rz_sys.specs.declared.input.Reply.{Reply as ReplyOf}
 use Rattle.rz_sys.specs.declared.input.Reply.TheVariants.{Full, AtMost, Error}
+use Rattle.rz_input.specs.Fault.{fault_of}
+use Rattle.rz_input.specs.Value.{input_of}
 use Rattle.rz_input.specs.declared.entry.Entry.{Entry}
 use Rattle.rz_input.specs.declared.entry.Entry.TheVariants.{Arg, Stdin, Reply}
 
@@ -46,3 +48,8 @@ printed_entries input =
 -- the text of an input
 abbrev pub printed : Input → List ℕ
 printed input = flat_map ended_line (printed_entries input)
+
+-- a text is in the grammar, and gives this input
+pub record IsReadAs (text : List ℕ) (input : Input) : Type 0 where
+  pub sound : fault_of text ≡ None
+  pub value : input_of text ≡ input

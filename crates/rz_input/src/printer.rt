@@ -1,12 +1,12 @@
 // Printing inputs.
 
-ghost use Rattle.std.specs.Prelude.{◌≡◌, ◌≤◌, ◌++◌, ◌<◌, OnOk, IfOk, None, length, flat_map};
+ghost use Rattle.std.specs.Prelude.{◌≡◌, ◌≤◌, ◌++◌, OnOk, IfOk, length, flat_map};
+ghost use Rattle.std.specs.List.{AllByRecursion};
 ghost use Rattle.hex.specs.Hex.{encode_lower};
 ghost use Rattle.rz_sys.specs.Input.{IsValid};
 ghost use Rattle.rz_input.specs.declared.entry.Entry.TheVariants as entry;
-ghost use Rattle.rz_input.specs.Fault.{fault_of};
-ghost use Rattle.rz_input.specs.Printed.{ended_line, pieces, printed};
-ghost use Rattle.rz_input.specs.Value.{input_of};
+ghost use Rattle.rz_input.specs.Calls.Printing.{HasWord};
+ghost use Rattle.rz_input.specs.Printed.{IsReadAs, ended_line, pieces, printed};
 
 use rz_num::{Bytes, OutOfMemory};
 use rz_sys::input::{Input, Replies, Reply};
@@ -19,6 +19,7 @@ const LINE_BYTES: usize = 32;
 /// It refuses for want of memory alone.
 pub fn print_input(alloc: Global, input: &Input) -> Result<Bytes, OutOfMemory>
     ensures text { IfOk result (λ text. text ≡ printed input.now) }
+    ensures read_back { IfOk result (λ text. IsValid input.now → length text ≤ 16777216 → IsReadAs text input.now) }
 {
     let mut text = Bytes::new(alloc);
     print_args(alloc, &mut text, input.args.as_slice())?;
@@ -68,7 +69,8 @@ fn print_piece(alloc: Global, text: &mut Bytes, piece: &[u8]) -> Result<(), OutO
 
 // Prints a line for each reply.
 fn print_replies(alloc: Global, text: &mut Bytes, replies: &Replies) -> Result<(), OutOfMemory>
-    ensures { OnOk result (text.new ≡ text.old ++ flat_map (λ reply. ended_line (entry.Reply reply)) replies.now) }
+    ensures text { OnOk result (text.new ≡ text.old ++ flat_map (λ reply. ended_line (entry.Reply reply)) replies.now) }
+    ensures words { OnOk result (AllByRecursion HasWord replies.now) }
 {
     for reply in replies.iter() {
         print_reply(alloc, text, *reply)?;
@@ -77,7 +79,8 @@ fn print_replies(alloc: Global, text: &mut Bytes, replies: &Replies) -> Result<(
 }
 
 fn print_reply(alloc: Global, text: &mut Bytes, reply: Reply) -> Result<(), OutOfMemory>
-    ensures { OnOk result (text.new ≡ text.old ++ ended_line (entry.Reply reply)) }
+    ensures text { OnOk result (text.new ≡ text.old ++ ended_line (entry.Reply reply)) }
+    ensures word { OnOk result (HasWord reply) }
 {
     match reply {
         Reply::Full => text.push_all(b"reply full\n"),
