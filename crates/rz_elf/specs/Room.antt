@@ -1,7 +1,7 @@
 -- Whether there is room for added parts: below the lowest load, in the header page, in the file and in memory.
 use Rattle.std.specs.Prelude.{◌≡◌, ℕ, ◌+◌, ◌%◌, ◌<◌, ◌≤◌, if◌then◌else◌, nat_lt, List, length, sum_by, Option, Some, None}
 use Rattle.rz_num.specs.Page.{page_up}
-pub use Rattle.rz_elf.specs.declared.room.Extent.{Extent}
+use Rattle.rz_elf.specs.declared.room.Extent.{Extent}
 use Rattle.rz_elf.specs.declared.room.Room.{Room}
 use Rattle.rz_elf.specs.declared.room.Room.TheVariants as room
 use Rattle.rz_elf.specs.Elf.{loads, image_of}

@@ -15,7 +15,7 @@ IsMultiple a b = (q : ℕ) × (b ≡ q * a)
 powers_divide : (d a : ℕ) → a ≤ d → count_ones a ≡ 1 → (j : ℕ) → IsMultiple a (2 ^ j) ⊎ IsMultiple (2 ^ j) a
 powers_divide d a h e zero = inr (a, omega arith)
 powers_divide zero a h e (suc j) = let few = ones_le_self a in absurd (omega arith)
-powers_divide (suc d) a h e (suc j) = go (a % 2) refl
+powers_divide (suc d) a h e (suc j) = go (a % 2) refl (λ one. powers_divide d (a / 2) (omega arith) one j)
   where
     twice : a % 2 ≡ 0 → a ≡ a / 2 * 2
     twice even = omega arith
@@ -26,12 +26,12 @@ powers_divide (suc d) a h e (suc j) = go (a % 2) refl
     down : a % 2 ≡ 0 → IsMultiple (2 ^ j) (a / 2) → IsMultiple a (2 ^ suc j) ⊎ IsMultiple (2 ^ suc j) a
     down even m = inr (m.0, twice even ∙ ap (λ n. n * 2) m.1 ∙ mul_assoc m.0 (2 ^ j) 2 ∙ ap (λ n. m.0 * n) (sym (pow-suc 2 j)))
 
-    go : (r : ℕ) → a % 2 ≡ r → IsMultiple a (2 ^ suc j) ⊎ IsMultiple (2 ^ suc j) a
-    go zero even =
+    go : (r : ℕ) → a % 2 ≡ r → (count_ones (a / 2) ≡ 1 → IsMultiple (a / 2) (2 ^ j) ⊎ IsMultiple (2 ^ j) (a / 2)) → IsMultiple a (2 ^ suc j) ⊎ IsMultiple (2 ^ suc j) a
+    go zero even ih =
         let s = ones_step a in
         let one : count_ones (a / 2) ≡ 1 = omega arith in
-        ⊎_elim (up even) (down even) (powers_divide d (a / 2) (omega arith) one j)
-    go (suc r) odd =
+        ⊎_elim (up even) (down even) (ih one)
+    go (suc r) odd ih =
         let s = ones_step a in
         let none : count_ones (a / 2) ≡ 0 = omega arith in
         let low : a / 2 ≡ 0 = zero_from_ones (a / 2) none in

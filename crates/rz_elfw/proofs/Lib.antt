@@ -4,3 +4,5 @@ pub mod Alignment
 pub mod HeaderBytes
 pub mod Writable
 pub mod NewHeaders
+pub mod NewFile
+pub mod ExtentLaws

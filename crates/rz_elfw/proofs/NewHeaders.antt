@@ -12,7 +12,7 @@ use Rattle.rz_elf.specs.WrittenFile.{moved, without_execute}
 use Rattle.rz_elf.proofs.Sound.{IsSound, IsSoundLoad, sound_load}
 use Rattle.rz_elfw.proofs.Alignment.{aligned_on, lesser_power}
 use Rattle.rz_elfw.proofs.HeaderBytes.{AreBytes, IsEncodable, bytes_on, encodable_read}
-use Rattle.rz_elfw.proofs.Original.{is_kept, kept_of}
+use Rattle.rz_elfw.proofs.Original.{is_kept, kept_of, kept_cons}
 
 -- a page is a power of two
 one_page : count_ones 4096 ≡ 1
@@ -20,10 +20,10 @@ unfolding ones ones_in
 one_page = ones_cat 12 1 0 (omega arith)
 
 -- a load of the original in the new file
-abbrev later_load : Segment → Segment
+abbrev pub later_load : Segment → Segment
 later_load s = record s { flags = without_execute s.flags; offset = s.offset + 4096; align = min s.align 4096 }
 
-moved_load : (s : Segment) → is_load s ≡ true → moved s ≡ later_load s
+pub moved_load : (s : Segment) → is_load s ≡ true → moved s ≡ later_load s
 moved_load s e = rw e refl
 
 moved_other : (s : Segment) → is_load s ≡ false → moved s ≡ s
@@ -35,6 +35,13 @@ load_kind s e = grind (arith, nat_tests, e)
 -- a condition on loads, on this one
 here : (load b : Bool) → load ≡ true → (load && b) ≡ false → b ≡ false
 here load b is e = ap (λ v. v && b) (sym is) ∙ e
+
+-- and two conditions more
+both : (load a b : Bool) → load ≡ true → (load && a && b) ≡ false → (a && b) ≡ false
+both load a b is e = ap (λ v. v && a && b) (sym is) ∙ e
+
+neither : (load a b : Bool) → load ≡ true → (a && b) ≡ false → (load && a && b) ≡ false
+neither load a b is e = ap (λ v. v && a && b) is ∙ e
 
 -- the flags without the one to execute
 plain_flags : (flags : ℕ) → 4 ≤ flags → flags ≤ 6 → (not (nat_le 4 (flags - flags % 2) && nat_le (flags - flags % 2) 7) ≡ false) × ((flags - flags % 2 == 7) ≡ false)
@@ -110,7 +117,7 @@ load_sound len more stop i j before after s room e comes low h =
     let flags = plain_flags s.flags l.readable l.harmless in
     let stored = l.stored in
     let inside : s.offset + 4096 + s.filesz ≤ more = omega (arith, stored, room) in
-    let aligned = misplaced_on s.align s.vaddr s.offset (here (is_load s) (misplaced s.align s.vaddr s.offset) e h.aligned) in
+    let aligned = misplaced_on s.align s.vaddr s.offset (both (is_load s) (nat_lt 1 s.align) (not (count_ones s.align == 1) || not (s.vaddr % s.align == s.offset % s.align)) e h.aligned) in
     let apart = stays_apart stop before after s comes low (sym (against_load isnt_above i before s e) ∙ h.above) (sym (against_load shares_page i before s e) ∙ h.apart) in
     record {
       fixed_place = h.fixed_place;
@@ -119,7 +126,7 @@ load_sound len more stop i j before after s room e comes low h =
       fixed = ap₂ ◌&&◌ e flags.1;
       small = h.small;
       stored = ap₂ ◌&&◌ e (grind (arith, nat_tests, inside));
-      aligned = ap₂ ◌&&◌ e aligned;
+      aligned = neither (is_load s) (nat_lt 1 (min s.align 4096)) (not (count_ones (min s.align 4096) == 1) || not (s.vaddr % min s.align 4096 == (s.offset + 4096) % min s.align 4096)) e aligned;
       near = h.near;
       above = against_load isnt_above j after (later_load s) e ∙ apart.0;
       apart = against_load shares_page j after (later_load s) e ∙ apart.1;
@@ -174,15 +181,31 @@ kept_sound len more stop room i j before after (s ∷ segs) comes low h =
         all_kept (ap₂ ◌||◌ e f) (rw (moved_is, e) (other_sound len more i j before after s e one, tail))
     go false e false f low one all rest = none_kept (ap₂ ◌||◌ e f) (rest (suc i) j before after comes low all)
 
+pub load_first : (s : Segment) (segs : List Segment) → is_load s ≡ true → filter is_load (s ∷ segs) ≡ s ∷ filter is_load segs
+load_first s segs e = rw e refl
+
+other_first : (s : Segment) (segs : List Segment) → is_load s ≡ false → filter is_load (s ∷ segs) ≡ filter is_load segs
+other_first s segs e = rw e refl
+
 -- the loads among the kept headers are the loads, moved
 pub loads_kept : (segs : List Segment) → filter is_load (kept_of segs) ≡ map moved (filter is_load segs)
 loads_kept [] = refl
 loads_kept (s ∷ segs) = go (is_load s) refl (is_stack s) refl (loads_kept segs)
   where
     go : (load : Bool) → is_load s ≡ load → (stack : Bool) → is_stack s ≡ stack → filter is_load (kept_of segs) ≡ map moved (filter is_load segs) → filter is_load (kept_of (s ∷ segs)) ≡ map moved (filter is_load (s ∷ segs))
-    go true e stack f ih = rw (e, e) (ap (λ (l : List Segment). later_load s ∷ l) ih)
-    go false e true f ih = rw (e, f, e) ih
-    go false e false f ih = rw (e, f) ih
+    go true e stack f ih =
+        ap (filter is_load) (kept_cons s segs true (ap (λ b. b || is_stack s) e))
+        ∙ ap (λ (t : Segment). filter is_load (t ∷ kept_of segs)) (moved_load s e)
+        ∙ load_first (later_load s) (kept_of segs) e
+        ∙ ap₂ (λ (t : Segment) (l : List Segment). t ∷ l) (sym (moved_load s e)) ih
+        ∙ ap (map moved) (sym (load_first s segs e))
+    go false e true f ih =
+        ap (filter is_load) (kept_cons s segs true (ap₂ ◌||◌ e f))
+        ∙ ap (λ (t : Segment). filter is_load (t ∷ kept_of segs)) (moved_other s e)
+        ∙ other_first s (kept_of segs) e
+        ∙ ih
+        ∙ ap (map moved) (sym (other_first s segs e))
+    go false e false f ih = ap (filter is_load) (kept_cons s segs false (ap₂ ◌||◌ e f)) ∙ ih ∙ ap (map moved) (sym (other_first s segs e))
 
 -- a kept header fits its places
 encodable_moved : (len : ℕ) (p : Placed) → len ≤ 67108864 → IsSound len p → IsEncodable p.segment → IsEncodable (moved p.segment)

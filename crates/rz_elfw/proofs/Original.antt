@@ -47,7 +47,7 @@ kept_turn : (x : List ℕ) (i : ℕ) → i < (file_header x).count
     → kept_from x i ≡ kept_of (segment_of (drop ((file_header x).table_at + 56 * i) x) ∷ segments_of ((file_header x).count - (i + 1)) (drop ((file_header x).table_at + 56 * (i + 1)) x))
 kept_turn x i lt = ap kept_of (segments_turn x (file_header x).table_at (file_header x).count i lt)
 
-kept_cons : (s : Segment) (segs : List Segment) (b : Bool) → is_kept s ≡ b → kept_of (s ∷ segs) ≡ (if b then moved s ∷ kept_of segs else kept_of segs)
+pub kept_cons : (s : Segment) (segs : List Segment) (b : Bool) → is_kept s ≡ b → kept_of (s ∷ segs) ≡ (if b then moved s ∷ kept_of segs else kept_of segs)
 kept_cons s segs true e = rw e refl
 kept_cons s segs false e = rw e refl
 

@@ -4,6 +4,7 @@ use Rattle.std.specs.Prelude.{filter, min, sum_by}
 use Rattle.std.specs.List.{AllByRecursion}
 use Rattle.std.proofs.lemmas.Bool.Decides.{nat_tests}
 use Rattle.rz_num.specs.Page.{page_up}
+use Rattle.rz_elf.specs.declared.room.Extent.{Extent}
 use Rattle.rz_elf.specs.declared.room.Room.{Room}
 use Rattle.rz_elf.specs.declared.segment.Segment.{Segment}
 use Rattle.rz_elf.specs.declared.placed.Placed.{Placed}
@@ -11,7 +12,7 @@ use Rattle.rz_elf.specs.Elf.{fault_of, is_load, load_region, loads, image_of, lo
 use Rattle.rz_elf.specs.Loaded.{is_load_header}
 use Rattle.rz_elf.specs.AddedRange.{lowest, page_floor}
 use Rattle.rz_elf.specs.WrittenFile.{Parts, kept_segments}
-use Rattle.rz_elf.specs.Room.{Extent, extent_of, no_room, parts_end, parts_size, ArePages, IsInCode}
+use Rattle.rz_elf.specs.Room.{extent_of, no_room, parts_end, parts_size, ArePages, IsInCode}
 use Rattle.rz_elf.proofs.Conditions.{none_holds}
 use Rattle.rz_elf.proofs.HeaderList.{loads_placed}
 use Rattle.rz_elf.proofs.Reading.{accepted_loads, loads_faultless}

@@ -2,9 +2,10 @@
 //! (System V gABI, chapter 4, "ELF Header", and chapter 5, "Program Header").
 #![tactic(auto)]
 
+pub mod extent;
 mod header_page;
 pub mod parts;
-pub mod room;
+
 mod segments;
 #[cfg(test)]
 mod tests;

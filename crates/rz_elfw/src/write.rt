@@ -29,8 +29,8 @@ pub fn write_elf(
     ensures accepted { IfOk result (λ w. fault_of w ≡ None) }
     ensures image { IfOk result (λ w. image_of w ≡ new_image (image_of elf.now.bytes) parts.now entry) }
 {
-    let segments = new_segments(alloc, elf, parts)?;
     let file = elf.bytes.as_slice();
+    let segments = new_segments(alloc, elf, parts)?;
     let filler = page_up(file.len() as u64) as usize - file.len();
     let tables = parts.tables.as_slice();
     let code = parts.code.as_slice();

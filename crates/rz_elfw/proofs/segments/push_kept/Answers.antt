@@ -38,14 +38,14 @@ loop-index-preserved c =
     let next : List Segment = kept_from x (i + 1) in
     elim c.if-is_kept.branch [
       then-is_kept+in_ok-push w ↦
-          ap (λ (l : List Segment). l ++ next) (w.segments-is ∙ w.in_ok-push.ensures.items ∙ ap (λ (t : Segment). c.loop-index.segments.items ++ t ∷ []) w.moved.ensures)
-          ∙ append_assoc c.loop-index.segments.items (moved s ∷ []) next
-          ∙ ap (λ (l : List Segment). c.loop-index.segments.items ++ l) (sym (kept_more x i s lt read (sym c.is_kept.ensures ∙ w.if-is_kept.true)))
-          ∙ c.loop-index.invariant
+          rw (w.segments-is) (
+            ap (λ (l : List Segment). l ++ next) (w.in_ok-push.ensures.items ∙ ap (λ (t : Segment). c.loop-index.segments.items ++ t ∷ []) w.moved.ensures)
+            ∙ append_assoc c.loop-index.segments.items (moved s ∷ []) next
+            ∙ ap (λ (l : List Segment). c.loop-index.segments.items ++ l) (sym (kept_more x i s lt read (sym c.is_kept.ensures ∙ w.if-is_kept.true)))
+            ∙ c.loop-index.invariant
+          )
       | else-is_kept w ↦
-          ap (λ (l : List Segment). l ++ next) w.segments-is
-          ∙ ap (λ (l : List Segment). c.loop-index.segments.items ++ l) (sym (kept_same x i s lt read (sym c.is_kept.ensures ∙ w.if-is_kept.false)))
-          ∙ c.loop-index.invariant
+          rw (w.segments-is) (ap (λ (l : List Segment). c.loop-index.segments.items ++ l) (sym (kept_same x i s lt read (sym c.is_kept.ensures ∙ w.if-is_kept.false))) ∙ c.loop-index.invariant)
     ]
 
 pub returns : goal.returns

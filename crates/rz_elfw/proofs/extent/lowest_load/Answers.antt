@@ -1,6 +1,6 @@
 use Rattle.std.proofs.Common.{◌-◌, ◌∙◌, length, take, drop}
 use Rattle.rz_elfw.proofs.Lowest.{least_turn, lowest_found}
-use Rattle.rz_elfw.proofs.room.lowest_load.Goals as goal
+use Rattle.rz_elfw.proofs.extent.lowest_load.Goals as goal
 
 pub loop-load-preserved : goal.loop-load-preserved
 loop-load-preserved c =
