@@ -163,18 +163,18 @@ module _ (n base t c s entry : ℕ) (is : IsSized n base t c s entry) where
 
   four_encodable : (rest : List Segment) → AllByRecursion IsEncodable rest → AllByRecursion IsEncodable (four ++ rest)
   four_encodable rest h = (
-      part_encodable 6 0 base 0 4096 (omega arith) (omega arith) (omega arith) (omega arith) (omega arith),
+    part_encodable 6 0 base 0 4096 (omega arith) (omega arith) (omega arith) (omega arith) (omega arith),
+    (
+      part_encodable 4 at (base + 4096) t t (omega arith) (omega arith) (omega arith) (omega arith) (omega arith),
       (
-        part_encodable 4 at (base + 4096) t t (omega arith) (omega arith) (omega arith) (omega arith) (omega arith),
+        part_encodable 5 (at + t) (base + 4096 + t) c c (omega arith) (omega arith) (omega arith) (omega arith) (omega arith),
         (
-          part_encodable 5 (at + t) (base + 4096 + t) c c (omega arith) (omega arith) (omega arith) (omega arith) (omega arith),
-          (
-            part_encodable 5 (at + t + c) (base + 4096 + t + c) s s (omega arith) (omega arith) (omega arith) (omega arith) (omega arith),
-            h,
-          ),
+          part_encodable 5 (at + t + c) (base + 4096 + t + c) s s (omega arith) (omega arith) (omega arith) (omega arith) (omega arith),
+          h,
         ),
       ),
-    )
+    ),
+  )
 
   abbrev len : ℕ
   len = at + t + c + s
@@ -397,10 +397,10 @@ module _ (x : List ℕ) (p : Parts) (entry : ℕ) (is : IsWritable x p entry) wh
       let on : l.offset + 4096 ≡ 4096 + l.offset = omega arith in
       let left : l.filesz ≤ length (drop l.offset x) = let d = length-drop l.offset x in omega arith in
       ap (take l.filesz) (
-        ap (λ n. drop n w) on
-        ∙ sym (drop-drop l.offset 4096 w)
-        ∙ ap (drop l.offset) w_rest
-        ∙ drop-append-le l.offset x tail (omega arith)
+      ap (λ n. drop n w) on
+      ∙ sym (drop-drop l.offset 4096 w)
+      ∙ ap (drop l.offset) w_rest
+      ∙ drop-append-le l.offset x tail (omega arith)
       )
       ∙ take-append-le l.filesz (drop l.offset x) tail left
 

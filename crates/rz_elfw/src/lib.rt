@@ -5,7 +5,6 @@
 pub mod extent;
 mod header_page;
 pub mod parts;
-
 mod segments;
 #[cfg(test)]
 mod tests;

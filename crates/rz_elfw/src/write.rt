@@ -15,12 +15,7 @@ use std::alloc::Global;
 /// The written file of an original with the added parts and an entry: a header page of 4096 bytes, the original whole,
 /// zeros up to a page, and the bytes of the tables, the code and the stubs. It is an accepted file again. What it loads
 /// are the original's loads, none of them executable, and the four added ones. It refuses for want of memory alone.
-pub fn write_elf(
-    alloc: Global,
-    elf: &Elf,
-    parts: &Parts,
-    entry: u64,
-) -> Result<Bytes, OutOfMemory>
+pub fn write_elf(alloc: Global, elf: &Elf, parts: &Parts, entry: u64) -> Result<Bytes, OutOfMemory>
     requires pages { ArePages parts.now }
     requires below { parts_end parts.now ≡ (extent_of elf.now.bytes).floor }
     requires entry { IsInCode parts.now entry }

@@ -34,7 +34,7 @@ loop-index-preserved c =
     let read = c.segment_at.ensures ∙ ap (λ (h : FileHeader). segment_of (drop (h.table_at + 56 * i) x)) c.read_header-header.ensures in
     let so_far : c.loop-index.count + length (kept_from x i) ≡ length (kept_of (segments x)) = c.loop-index.invariant in
     elim c.if-is_kept.branch [
-      then-is_kept w ↦
+      | then-is_kept w ↦
           let more = ap length (kept_more x i s lt read (sym c.is_kept.ensures ∙ w.if-is_kept.true)) in
           omega (arith, more, so_far, w.count-is)
       | else-is_kept w ↦

@@ -37,12 +37,12 @@ loop-index-preserved c =
     let read = c.segment_at-segment.ensures ∙ ap (λ (h : FileHeader). segment_of (drop (h.table_at + 56 * i) x)) c.read_header-header.ensures in
     let next : List Segment = kept_from x (i + 1) in
     elim c.if-is_kept.branch [
-      then-is_kept+in_ok-push w ↦
+      | then-is_kept+in_ok-push w ↦
           rw (w.segments-is) (
-            ap (λ (l : List Segment). l ++ next) (w.in_ok-push.ensures.items ∙ ap (λ (t : Segment). c.loop-index.segments.items ++ t ∷ []) w.moved.ensures)
-            ∙ append_assoc c.loop-index.segments.items (moved s ∷ []) next
-            ∙ ap (λ (l : List Segment). c.loop-index.segments.items ++ l) (sym (kept_more x i s lt read (sym c.is_kept.ensures ∙ w.if-is_kept.true)))
-            ∙ c.loop-index.invariant
+          ap (λ (l : List Segment). l ++ next) (w.in_ok-push.ensures.items ∙ ap (λ (t : Segment). c.loop-index.segments.items ++ t ∷ []) w.moved.ensures)
+          ∙ append_assoc c.loop-index.segments.items (moved s ∷ []) next
+          ∙ ap (λ (l : List Segment). c.loop-index.segments.items ++ l) (sym (kept_more x i s lt read (sym c.is_kept.ensures ∙ w.if-is_kept.true)))
+          ∙ c.loop-index.invariant
           )
       | else-is_kept w ↦
           rw (w.segments-is) (ap (λ (l : List Segment). c.loop-index.segments.items ++ l) (sym (kept_same x i s lt read (sym c.is_kept.ensures ∙ w.if-is_kept.false))) ∙ c.loop-index.invariant)
