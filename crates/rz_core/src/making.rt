@@ -15,13 +15,13 @@ ghost use Rattle.rz_core.specs.Debloated.{IsDebloated, kept_of, traced, report_o
 ghost use Rattle.rz_core.specs.Making.{IsOfThin, MakeRefused};
 ghost use Rattle.rz_core.specs.Texts.{report_text};
 
-use rz_rewrite::rewrite::{New, rewrite};
 use crate::texts;
 use rz_elf::elf::Elf;
 use rz_machine::first::First;
-use rz_sys::input::Input;
 use rz_machine::trace::{Record, TraceRefusal, trace};
 use rz_num::{Bytes, OutOfMemory};
+use rz_rewrite::rewrite::{New, rewrite};
+use rz_sys::input::Input;
 use std::alloc::{AllocError, Global};
 
 /// Why no new file was made.
