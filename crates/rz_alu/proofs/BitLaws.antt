@@ -1,11 +1,10 @@
 -- Bits and powers of two.
-use Rattle.std.proofs.Common.{◌≡◌, ℕ, suc, ◌+◌, ◌-◌, ◌*◌, ◌/◌, ◌%◌, ◌^◌, ◌<◌, ◌≤◌, subst, sym, ◌∙◌, ap, refl, arith, inl, inr, zero-mul}
+use Rattle.std.proofs.Common.{◌≡◌, ℕ, suc, ◌+◌, ◌-◌, ◌*◌, ◌/◌, ◌%◌, ◌^◌, ◌<◌, ◌≤◌, subst, sym, ◌∙◌, ap, arith, inl, inr, zero-mul}
 use Rattle.std.proofs.Math.Nat.{pow-le-pow_right, pow-suc, add_comm}
 use Rattle.std.proofs.lemmas.Bool.{cases_lt}
 use Rattle.std.proofs.lemmas.Nat.{pow_pos, pow-add, mod_below, one_shl, shl_whole, shr_below, mul-add-lt, leading_length, or_lt, or_disjoint, pow_below}
 use Rattle.std.proofs.lemmas.Nat.Bits.{and_pow}
 use Rattle.std.specs.Int.{leading_zeros, w64}
-use Rattle.std.specs.Prelude.{bit_or}
 use Rattle.rz_num.specs.declared.width.Width.{Width}
 use Rattle.rz_num.specs.declared.width.Width.TheVariants.{W8, W16, W32, W64}
 use Rattle.rz_num.specs.Width.{size, bits}

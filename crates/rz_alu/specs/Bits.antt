@@ -1,5 +1,5 @@
 -- One bit of a number of a width (Intel SDM, volume 2, "BT", "BTC", "BTR", "BTS").
-use Rattle.std.specs.Prelude.{ℕ, ◌+◌, ◌-◌, ◌*◌, ◌%◌, ◌^◌, Bool, true, false, not}
+use Rattle.std.specs.Prelude.{ℕ, ◌+◌, ◌-◌, ◌%◌, ◌^◌, Bool, true, false, not}
 use Rattle.rz_num.specs.declared.width.Width.{Width}
 use Rattle.rz_num.specs.Width.{bits, low_bits}
 use Rattle.rz_flags.specs.declared.Flags.{Flags}

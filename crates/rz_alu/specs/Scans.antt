@@ -1,5 +1,5 @@
 -- Searches for a bit and counts of bits (Intel SDM, volume 2, "BSF", "BSR", "TZCNT", "LZCNT", "POPCNT").
-use Rattle.std.specs.Prelude.{ℕ, ◌-◌, true, false, ◌==◌, if◌then◌else◌, count_ones}
+use Rattle.std.specs.Prelude.{ℕ, ◌-◌, false, ◌==◌, if◌then◌else◌, count_ones}
 use Rattle.std.specs.Int.{leading_zeros, trailing_zeros, w64}
 use Rattle.rz_num.specs.declared.width.Width.{Width}
 use Rattle.rz_num.specs.Width.{bits, low_bits}

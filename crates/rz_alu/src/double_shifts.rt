@@ -3,7 +3,7 @@
 ghost use Rattle.std.specs.Prelude.{◌≡◌, ◌<◌};
 ghost use Rattle.rz_num.specs.Width.{size, bits};
 ghost use Rattle.rz_num.specs.Products.{pair};
-ghost use Rattle.rz_alu.specs.Shifts.{double_shift, double_shift_by, bits_from};
+ghost use Rattle.rz_alu.specs.Shifts.{double_shift, bits_from};
 
 use crate::shifts::used_count;
 use crate::status::{flags_of, top_bit};

@@ -2,7 +2,7 @@
 
 ghost use Rattle.std.specs.Prelude.{◌≡◌, ◌<◌, ◌≤◌, ◌+◌, ◌^◌};
 ghost use Rattle.rz_num.specs.Width.{size, bits};
-ghost use Rattle.rz_alu.specs.Shifts.{used_count, rotation, shift, shift_by, left_rotation, right_rotation, left_shift, right_shift, sign_above, signed_shift};
+ghost use Rattle.rz_alu.specs.Shifts.{used_count, rotation, shift, left_rotation, right_rotation, left_shift, right_shift, sign_above, signed_shift};
 
 use crate::status::{flags_of, top_bit, with_carry_overflow};
 use rz_flags::{Flags, ShiftOp};

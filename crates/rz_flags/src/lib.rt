@@ -3,7 +3,7 @@
 
 ghost use Rattle.std.specs.Prelude.{◌≡◌, ◌<◌, Some};
 ghost use Rattle.rz_flags.specs.Cond.{cond_of as cond_of_number, number_of, holds as holds_for};
-ghost use Rattle.rz_flags.specs.Word.{flags_word, flags_in, bit_of, is_set, sets_other};
+ghost use Rattle.rz_flags.specs.Word.{flags_word, flags_in, bit_of, is_set};
 
 /// The status flags CF, PF, AF, ZF, SF and OF and the control flag DF of RFLAGS
 /// (Intel SDM, volume 1, section 3.4.3).

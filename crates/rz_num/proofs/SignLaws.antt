@@ -1,5 +1,5 @@
 -- Signed numbers as a sign and a magnitude.
-use Rattle.std.proofs.Common.{◌≡◌, ℕ, zero, ◌*◌, ◌-◌, ◌%◌, arith}
+use Rattle.std.proofs.Common.{◌≡◌, ℕ, ◌*◌, ◌-◌, ◌%◌}
 use Rattle.std.proofs.Math.Nat.{mod_self, sub-zero}
 
 -- minus 0 is 0
