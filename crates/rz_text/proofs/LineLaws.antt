@@ -65,7 +65,7 @@ lines-ended line (x ∷ xs) plain =
     let count = length-slice_split (λ (b : ℕ). b == 10) rest in
     rw (joined, split)
     (lines_of_pieces-cons (line x) (slice_split (λ (b : ℕ). b == 10) rest) (omega (arith, count))
-     ∙ ap (λ (ls : List (List ℕ)). line x ∷ ls) (lines-ended line xs plain.1))
+    ∙ ap (λ (ls : List (List ℕ)). line x ∷ ls) (lines-ended line xs plain.1))
 
 -- the words of a line that joins them
 pub words-joined : (w : List ℕ) (ws : List (List ℕ)) → AllByRecursion (λ v. All (λ b. (b == 32) ≡ false) v) (w ∷ ws)

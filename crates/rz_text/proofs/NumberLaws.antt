@@ -82,10 +82,10 @@ decimal-printed n fits =
     let len = length-enumerate_from 0 word in
     let right : wrong_place decimal_has word ≡ None = position-absent (λ (x : ℕ × ℕ). not (decimal_has x.0 x.1)) (enumerate_from 0 word) (0, 0)
     (λ k below.
-        let inside : k < length word = omega (arith, len) in
-        let at = get_or-enumerate_from 0 word k (0, 0) inside in
-        let start = zero-add k in
-        rw (at, start) (decimal_has-digit k (get_or word k 0) (omega (arith, short, inside)) (each_digit 10 word numeral.0.1 k inside))) in
+    let inside : k < length word = omega (arith, len) in
+    let at = get_or-enumerate_from 0 word k (0, 0) inside in
+    let start = zero-add k in
+    rw (at, start) (decimal_has-digit k (get_or word k 0) (omega (arith, short, inside)) (each_digit 10 word numeral.0.1 k inside))) in
     let some : nat_lt 0 (length word) ≡ true = lt-ltb 0 (length word) numeral.0.0 in
     let small : nat_lt n (2 ^ 64) ≡ true = lt-ltb n (2 ^ 64) fits in
     rw (right, numeral.1, some, small) refl
