@@ -10,3 +10,6 @@ mod reader;
 pub use error::InputError;
 pub use printer::print_input;
 pub use reader::read_input;
+
+#[cfg(test)]
+mod tests;

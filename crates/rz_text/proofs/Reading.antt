@@ -1,7 +1,7 @@
 -- Reading a text line by line: what is known of the whole text behind some of its lines.
-use Rattle.std.proofs.Common.{◌≡◌, ℕ, Bool, true, false, List, [], ◌∷◌, ◌++◌, Option, Some, None, cond, filter, refl, sym, ap, ◌∙◌, append_assoc, append-nil}
+use Rattle.std.proofs.Common.{◌≡◌, ℕ, true, false, List, [], ◌∷◌, ◌++◌, Option, Some, None, refl, sym, ◌∙◌, append_assoc, append-nil}
 use Rattle.rz_text.specs.Lines.{Line, content, content_of, has_content, lines_from}
-use Rattle.rz_text.specs.Fault.{first_fault, line_fault, or_else}
+use Rattle.rz_text.specs.Fault.{first_fault, line_fault}
 
 -- the lines before the rest have no fault
 pub record IsRead {E : Type 0} (fault : List Line → Line → Option E) (text : List ℕ) (earlier rest : List Line) : Type 0 where
