@@ -10,7 +10,7 @@ use rz_num::OutOfMemory;
 use std::alloc::Global;
 use std::marker::Model;
 
-/// A family of lists: those that nodes stand in going out, and those that they stand in coming in.
+/// A family of lists. Each node stands in a list of each family.
 #[derive(Clone, Copy, Debug, PartialEq, Eq)]
 pub enum Family {
     Out,
@@ -38,7 +38,11 @@ impl<T> Model for Arena<T> {
     ghost coded = { arena_code T.code };
 
     ghost view = { λ a. record {
-        outs = a.outs.lists; ins = a.ins.lists; values = a.values.items; spare = a.spare } };
+      outs = a.outs.lists;
+      ins = a.ins.lists;
+      values = a.values.items;
+      spare = a.spare;
+    } };
 
     ghost invariant = { λ a. HasRoom a.outs a.ins (vec_len a.values) (vec_capacity a.values) a.spare };
 }
