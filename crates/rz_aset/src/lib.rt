@@ -9,6 +9,5 @@ pub use addresses::AddrSet;
 pub use edges::EdgeSet;
 pub use kept::Record;
 
-
 #[cfg(test)]
 mod tests;

@@ -7,7 +7,10 @@ fn addresses_are_sorted(rt: HostRuntime) -> Result<(), std::test::Fail> {
     let mut set = AddrSet::new(rt.alloc());
     set.insert(7)?;
     set.insert_all(&[5, 7, u64::MAX, 5])?;
-    assert_eq!(rt; set.sorted(rt.alloc())?.as_slice(), [5, 7, u64::MAX].as_slice());
+    assert_eq!(rt;
+        set.sorted(rt.alloc())?.as_slice(),
+        [5, 7, u64::MAX].as_slice()
+    );
     Ok(())
 }
 
@@ -17,6 +20,9 @@ fn edges_are_sorted(rt: HostRuntime) -> Result<(), std::test::Fail> {
     for edge in [(2, 1), (1, 9), (2, 1), (2, 0)] {
         set.insert(edge)?;
     }
-    assert_eq!(rt; set.sorted(rt.alloc())?.as_slice(), [(1, 9), (2, 0), (2, 1)].as_slice());
+    assert_eq!(rt;
+        set.sorted(rt.alloc())?.as_slice(),
+        [(1, 9), (2, 0), (2, 1)].as_slice()
+    );
     Ok(())
 }

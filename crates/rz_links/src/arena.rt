@@ -10,7 +10,7 @@ use rz_num::OutOfMemory;
 use std::alloc::Global;
 use std::marker::Model;
 
-/// A family of lists: those that nodes stand in going out, and those that they stand in coming in.
+/// A family of lists. Each node stands in a list of each family.
 #[derive(Clone, Copy, Debug, PartialEq, Eq)]
 pub enum Family {
     Out,

@@ -6,3 +6,6 @@ mod links;
 mod lists;
 
 pub use arena::{Arena, Family};
+
+#[cfg(test)]
+mod tests;
