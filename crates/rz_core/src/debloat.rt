@@ -17,10 +17,10 @@ use crate::status::{Status, Target};
 use crate::words::Debloat;
 use rz_elf::elf::Elf;
 use rz_elf::fault::ElfError;
-use rz_sys::input::Input;
-use rz_rewrite::thin::read_thin;
 use rz_num::{Bytes, OutOfMemory, Text};
 use rz_outside::{Store, WriteErr};
+use rz_rewrite::thin::read_thin;
+use rz_sys::input::Input;
 use std::alloc::Global;
 
 fn write<S: Store>(alloc: Global, store: &mut S, name: &Text, bytes: &Bytes) -> Result<(), Status>
