@@ -7,9 +7,9 @@ use rz_elf::read::read_elf;
 use rz_machine::first::First;
 use rz_machine::machine::{End, Outcome};
 use rz_machine::start::start;
+use rz_num::{Bytes, OutOfMemory};
 use rz_sys::event::Event;
 use rz_sys::input::Input;
-use rz_num::{Bytes, OutOfMemory};
 use std::alloc::{AllocError, Global};
 
 // The registers in the order of their numbers.

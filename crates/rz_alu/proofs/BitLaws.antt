@@ -9,27 +9,27 @@ use Rattle.std.specs.Prelude.{bit_or}
 use Rattle.rz_num.specs.declared.width.Width.{Width}
 use Rattle.rz_num.specs.declared.width.Width.TheVariants.{W8, W16, W32, W64}
 use Rattle.rz_num.specs.Width.{size, bits}
-use Rattle.rz_alu.specs.Shifts.{turned}
+use Rattle.rz_alu.specs.Shifts.{rotation}
 
--- a turned number has no more bits
-pub turned_low : (lowest others a : ℕ) → a < 2 ^ (lowest + others) → turned lowest others a < 2 ^ (lowest + others)
-turned_low lowest others a below =
+-- a rotated number has no more bits
+pub rotation_low : (lowest others a : ℕ) → a < 2 ^ (lowest + others) → rotation lowest others a < 2 ^ (lowest + others)
+rotation_low lowest others a below =
     let inside : a < 2 ^ (others + lowest) = subst (λ n. a < 2 ^ n) (add_comm lowest others) below in
-    let sum : turned lowest others a < 2 ^ others * 2 ^ lowest =
+    let sum : rotation lowest others a < 2 ^ others * 2 ^ lowest =
     mul-add-lt (a % 2 ^ lowest) (2 ^ others) (a / 2 ^ lowest) (2 ^ lowest) (mod_below a (2 ^ lowest) (pow_pos lowest)) (shr_below a others lowest inside) in
-    subst (λ n. turned lowest others a < n) (sym (pow-add 2 others lowest) ∙ ap (λ n. 2 ^ n) (add_comm others lowest)) sum
+    subst (λ n. rotation lowest others a < n) (sym (pow-add 2 others lowest) ∙ ap (λ n. 2 ^ n) (add_comm others lowest)) sum
 
--- what `turned` computes in 128 bits
-pub turned_shift : (lowest others a : ℕ) → lowest + others ≤ 65 → ((a % (1 * 2 ^ lowest % 2 ^ 128)) * 2 ^ others) % 2 ^ 128 ≡ (a % 2 ^ lowest) * 2 ^ others
-turned_shift lowest others a few =
+-- what `rotation` computes in 128 bits
+pub rotation_shift : (lowest others a : ℕ) → lowest + others ≤ 65 → ((a % (1 * 2 ^ lowest % 2 ^ 128)) * 2 ^ others) % 2 ^ 128 ≡ (a % 2 ^ lowest) * 2 ^ others
+rotation_shift lowest others a few =
     rw (one_shl lowest 128 (omega arith))
     (shl_whole (a % 2 ^ lowest) lowest others 128 (mod_below a (2 ^ lowest) (pow_pos lowest)) (omega arith))
 
-pub turned_fits : (lowest others a : ℕ) → lowest + others ≤ 65 → a < 2 ^ (lowest + others)
+pub rotation_fits : (lowest others a : ℕ) → lowest + others ≤ 65 → a < 2 ^ (lowest + others)
     → ((a % (1 * 2 ^ lowest % 2 ^ 128)) * 2 ^ others) % 2 ^ 128 + a / 2 ^ lowest < 2 ^ 128
-turned_fits lowest others a few below =
-    rw (turned_shift lowest others a few)
-    (omega (arith, turned_low lowest others a below, pow-le-pow_right {n = 2} (omega arith) {i = lowest + others} {j = 65} few))
+rotation_fits lowest others a few below =
+    rw (rotation_shift lowest others a few)
+    (omega (arith, rotation_low lowest others a below, pow-le-pow_right {n = 2} (omega arith) {i = lowest + others} {j = 65} few))
 
 -- a number of j bits has at least the other zeros above it
 zeros_room : (j a : ℕ) → j ≤ 64 → a < 2 ^ j → 64 ≤ leading_zeros w64 a + j

@@ -17,13 +17,13 @@ abbrev pub zeros_above : Width → ℕ → ℕ
 zeros_above w a = leading_zeros w64 a - (64 - bits w)
 
 -- the place of a one: where there is none, the old value stays whole (which is razor's own); ZF says so
-abbrev pub place_found : ℕ → ℕ → ℕ → Flags → Answer
-place_found source old place flags =
+abbrev pub place_answer : ℕ → ℕ → ℕ → Flags → Answer
+place_answer source old place flags =
     record { value = if source == 0 then old else place; flags = record flags { zf = source == 0 } }
 
 -- a count of zeros
-abbrev pub zeros_counted : ℕ → ℕ → Flags → Answer
-zeros_counted source count flags = record { value = count; flags = record flags { cf = source == 0; zf = count == 0 } }
+abbrev pub zeros_answer : ℕ → ℕ → Flags → Answer
+zeros_answer source count flags = record { value = count; flags = record flags { cf = source == 0; zf = count == 0 } }
 
 -- the flags after a count of ones
 abbrev pub ones_flags : ℕ → Flags → Flags
@@ -32,10 +32,10 @@ ones_flags source flags =
 
 -- of a source below the size of the width
 abbrev pub scan_of : ScanOp → Width → ℕ → ℕ → Flags → Answer
-scan_of Bsf w old source flags = place_found source old (zeros_below w source) flags
-scan_of Bsr w old source flags = place_found source old (bits w - 1 - zeros_above w source) flags
-scan_of Tzcnt w old source flags = zeros_counted source (zeros_below w source) flags
-scan_of Lzcnt w old source flags = zeros_counted source (zeros_above w source) flags
+scan_of Bsf w old source flags = place_answer source old (zeros_below w source) flags
+scan_of Bsr w old source flags = place_answer source old (bits w - 1 - zeros_above w source) flags
+scan_of Tzcnt w old source flags = zeros_answer source (zeros_below w source) flags
+scan_of Lzcnt w old source flags = zeros_answer source (zeros_above w source) flags
 scan_of Popcnt w old source flags = record { value = count_ones source; flags = ones_flags source flags }
 
 -- of any source: it is cut to the width; the old value isn't

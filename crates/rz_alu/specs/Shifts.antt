@@ -14,11 +14,11 @@ use Rattle.rz_alu.specs.Answer.{Answer}
 use Rattle.rz_alu.specs.Status.{flags_of, with_carry_overflow, top_bit}
 
 -- a count's low five bits, or low six at width 64
-abbrev pub masked : Width → ℕ → ℕ
-masked W8 count = count % 32
-masked W16 count = count % 32
-masked W32 count = count % 32
-masked W64 count = count % 64
+abbrev pub used_count : Width → ℕ → ℕ
+used_count W8 count = count % 32
+used_count W16 count = count % 32
+used_count W32 count = count % 32
+used_count W64 count = count % 64
 
 -- The flags below are razor's own where the SDM leaves them open: OF after counts other than 1, CF of counts beyond the
 -- width, and AF.
@@ -26,20 +26,20 @@ masked W64 count = count % 64
 -- ---- rotates
 
 -- a number whose lowest bits, so many, are put above its other bits
-abbrev pub turned : ℕ → ℕ → ℕ → ℕ
-turned lowest others a = (a % 2 ^ lowest) * 2 ^ others + a / 2 ^ lowest
+abbrev pub rotation : ℕ → ℕ → ℕ → ℕ
+rotation lowest others a = (a % 2 ^ lowest) * 2 ^ others + a / 2 ^ lowest
 
 -- CF is the bit that came in at the bottom
 abbrev pub left_rotation : Width → ℕ → ℕ → Flags → Answer
 left_rotation w a n old =
-    let r = turned (bits w - n % bits w) (n % bits w) a in
+    let r = rotation (bits w - n % bits w) (n % bits w) a in
     let carry = is_set r 0 in
     record { value = r; flags = with_carry_overflow carry (differ (top_bit w r) carry) old }
 
 -- CF is the bit that came in at the top
 abbrev pub right_rotation : Width → ℕ → ℕ → Flags → Answer
 right_rotation w a n old =
-    let r = turned (n % bits w) (bits w - n % bits w) a in
+    let r = rotation (n % bits w) (bits w - n % bits w) a in
     record { value = r; flags = with_carry_overflow (top_bit w r) (differ (top_bit w r) (is_set r (bits w - 2))) old }
 
 -- ---- shifts
@@ -81,7 +81,7 @@ unless_zero n a old x = if n == 0 then record { value = a; flags = old } else x
 -- of any operand and count: they are cut to the width and masked
 abbrev pub shift : ShiftOp → Width → ℕ → ℕ → Flags → Answer
 shift op w a count old =
-    let n = masked w count in
+    let n = used_count w count in
     unless_zero n (low_bits w a) old (shift_by op w (low_bits w a) n old)
 
 -- ---- double shifts
@@ -107,5 +107,5 @@ double_shift_by false w a b n old =
 -- widths 8 and 16 is razor's own
 abbrev pub double_shift : Bool → Width → ℕ → ℕ → ℕ → Flags → Answer
 double_shift left w a b count old =
-    let n = masked w count % bits w in
+    let n = used_count w count % bits w in
     unless_zero n (low_bits w a) old (double_shift_by left w (low_bits w a) (low_bits w b) n old)

@@ -6,13 +6,13 @@ use Rattle.rz_num.specs.Width.{half}
 use Rattle.rz_num.specs.Carry.{bit}
 
 -- a number read in two's complement, plus half, so that it is a natural number
-abbrev pub raised : Width → ℕ → ℕ
-raised w a = if nat_lt a (half w) then a + half w else a - half w
+abbrev pub above_least : Width → ℕ → ℕ
+above_least w a = if nat_lt a (half w) then a + half w else a - half w
 
 -- the sum of the signed numbers is below the least or above the greatest
 abbrev pub sum_overflows : Width → ℕ → ℕ → Bool → Bool
 sum_overflows w a b carry =
-    nat_lt (raised w a + raised w b + bit carry) (half w) || nat_le (3 * half w) (raised w a + raised w b + bit carry)
+    nat_lt (above_least w a + above_least w b + bit carry) (half w) || nat_le (3 * half w) (above_least w a + above_least w b + bit carry)
 
 -- the carry out of bit 3
 abbrev pub sum_carries_low : ℕ → ℕ → Bool → Bool
@@ -21,7 +21,7 @@ sum_carries_low a b carry = nat_le 16 (a % 16 + b % 16 + bit carry)
 -- the difference of the signed numbers is below the least or above the greatest
 abbrev pub difference_overflows : Width → ℕ → ℕ → Bool → Bool
 difference_overflows w a b borrow =
-    nat_lt (raised w a + half w) (raised w b + bit borrow) || nat_le (raised w b + bit borrow + half w) (raised w a)
+    nat_lt (above_least w a + half w) (above_least w b + bit borrow) || nat_le (above_least w b + bit borrow + half w) (above_least w a)
 
 -- the borrow into bit 3
 abbrev pub difference_borrows_low : ℕ → ℕ → Bool → Bool

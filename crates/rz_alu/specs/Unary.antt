@@ -9,13 +9,13 @@ use Rattle.rz_alu.specs.Answer.{Answer}
 use Rattle.rz_alu.specs.Arith.{addition, subtraction}
 
 -- an answer with CF as it was
-abbrev pub carry_left : Flags → Answer → Answer
-carry_left old x = record x { flags = record x.flags { cf = old.cf } }
+abbrev pub with_old_carry : Flags → Answer → Answer
+with_old_carry old x = record x { flags = record x.flags { cf = old.cf } }
 
 -- of an operand below the size of the width: INC adds 1 and DEC subtracts it, NOT inverts each bit, NEG subtracts from 0
 abbrev pub unary_of : UnaryOp → Width → ℕ → Flags → Answer
-unary_of Inc w a old = carry_left old (addition w a 1 false old)
-unary_of Dec w a old = carry_left old (subtraction w a 1 false old)
+unary_of Inc w a old = with_old_carry old (addition w a 1 false old)
+unary_of Dec w a old = with_old_carry old (subtraction w a 1 false old)
 unary_of Not w a old = record { value = size w - 1 - a; flags = old }
 unary_of Neg w a old = subtraction w 0 a false old
 

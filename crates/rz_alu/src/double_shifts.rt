@@ -5,7 +5,7 @@ ghost use Rattle.rz_num.specs.Width.{size, bits};
 ghost use Rattle.rz_num.specs.Products.{pair};
 ghost use Rattle.rz_alu.specs.Shifts.{double_shift, double_shift_by, bits_from};
 
-use crate::shifts::masked;
+use crate::shifts::used_count;
 use crate::status::{flags_of, top_bit};
 use rz_flags::Flags;
 use rz_num::{Width, mask};
@@ -19,7 +19,7 @@ pub fn double_shift(left: bool, w: Width, a: u64, b: u64, count: u8, flags: Flag
 {
     let a = mask(w, a);
     let b = mask(w, b);
-    let n = masked(w, count) % w.bits();
+    let n = used_count(w, count) % w.bits();
     if n == 0 {
         return (a, flags);
     }

@@ -2,7 +2,7 @@
 
 ghost use Rattle.std.specs.Prelude.{◌≡◌, ◌<◌};
 ghost use Rattle.rz_num.specs.Width.{size};
-ghost use Rattle.rz_alu.specs.Scans.{scan, zeros_below, zeros_above, zeros_counted, ones_flags};
+ghost use Rattle.rz_alu.specs.Scans.{scan, zeros_below, zeros_above, zeros_answer, ones_flags};
 
 use rz_flags::{Flags, ScanOp};
 use rz_num::{Width, mask};
@@ -49,8 +49,8 @@ fn zeros_above(w: Width, source: u64) -> u64
 
 // A count of zeros in a source, and the flags after it.
 fn zeros(source: u64, count: u64, flags: Flags) -> (u64, Flags)
-    ensures value { result.0 ≡ (zeros_counted source count flags).value }
-    ensures flags { result.1 ≡ (zeros_counted source count flags).flags }
+    ensures value { result.0 ≡ (zeros_answer source count flags).value }
+    ensures flags { result.1 ≡ (zeros_answer source count flags).flags }
 {
     (
         count,

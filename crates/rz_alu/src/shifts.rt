@@ -2,7 +2,7 @@
 
 ghost use Rattle.std.specs.Prelude.{◌≡◌, ◌<◌, ◌≤◌, ◌+◌, ◌^◌};
 ghost use Rattle.rz_num.specs.Width.{size, bits};
-ghost use Rattle.rz_alu.specs.Shifts.{masked, turned, shift, shift_by, left_rotation, right_rotation, left_shift, right_shift, sign_above, signed_shift};
+ghost use Rattle.rz_alu.specs.Shifts.{used_count, rotation, shift, shift_by, left_rotation, right_rotation, left_shift, right_shift, sign_above, signed_shift};
 
 use crate::status::{flags_of, top_bit, with_carry_overflow};
 use rz_flags::{Flags, ShiftOp};
@@ -16,7 +16,7 @@ pub fn shift(op: ShiftOp, w: Width, a: u64, count: u8, flags: Flags) -> (u64, Fl
     ensures flags { result.1 ≡ (shift op w a count flags).flags }
 {
     let a = mask(w, a);
-    let n = masked(w, count);
+    let n = used_count(w, count);
     if n == 0 {
         return (a, flags);
     }
@@ -30,8 +30,8 @@ pub fn shift(op: ShiftOp, w: Width, a: u64, count: u8, flags: Flags) -> (u64, Fl
 }
 
 // The bits of a count that are used.
-pub(crate) fn masked(w: Width, count: u8) -> u32
-    ensures { result ≡ masked w count }
+pub(crate) fn used_count(w: Width, count: u8) -> u32
+    ensures { result ≡ used_count w count }
 {
     match w {
         Width::W8 | Width::W16 | Width::W32 => count as u32 % 32,
@@ -40,11 +40,11 @@ pub(crate) fn masked(w: Width, count: u8) -> u32
 }
 
 // The number of so many bits whose lowest ones are put above the others.
-#[tactic(auto, using(crate::proofs::BitLaws::turned_low, crate::proofs::BitLaws::turned_shift, crate::proofs::BitLaws::turned_fits))]
-fn turned(lowest: u32, others: u32, a: u128) -> u128
+#[tactic(auto, using(crate::proofs::BitLaws::rotation_low, crate::proofs::BitLaws::rotation_shift, crate::proofs::BitLaws::rotation_fits))]
+fn rotation(lowest: u32, others: u32, a: u128) -> u128
     requires few { lowest + others ≤ 65 }
     requires a { a < 2 ^ (lowest + others) }
-    ensures value { result ≡ turned lowest others a }
+    ensures value { result ≡ rotation lowest others a }
     ensures low { result < 2 ^ (lowest + others) }
 {
     ((a % (1 << lowest)) << others) + (a >> lowest)
@@ -56,7 +56,7 @@ fn rotate_left(w: Width, a: u64, n: u32, flags: Flags) -> (u64, Flags)
     ensures flags { result.1 ≡ (left_rotation w a n flags).flags }
 {
     let k = n % w.bits();
-    let value = turned(w.bits() - k, k, a as u128) as u64;
+    let value = rotation(w.bits() - k, k, a as u128) as u64;
     let cf = value % 2 == 1;
     (
         value,
@@ -70,7 +70,7 @@ fn rotate_right(w: Width, a: u64, n: u32, flags: Flags) -> (u64, Flags)
     ensures flags { result.1 ≡ (right_rotation w a n flags).flags }
 {
     let k = n % w.bits();
-    let value = turned(k, w.bits() - k, a as u128) as u64;
+    let value = rotation(k, w.bits() - k, a as u128) as u64;
     let cf = top_bit(w, value);
     let second = (value >> (w.bits() - 2)) % 2 == 1;
     (value, with_carry_overflow(cf, cf != second, flags))

@@ -1,9 +1,28 @@
-//! Values and flags that the Intel SDM determines: conditions after CMP (volume 2, "Jcc": above and below speak of
-//! unsigned numbers, greater and less of signed ones), and flags of sums and differences.
+//! Values and flags that the Intel SDM determines: the conditions after CMP, and rows of edge operands at each width.
 
-use crate::arith;
-use rz_flags::{ArithOp, Cond, Flags, holds};
+mod rows;
+
+use crate::{arith, bit_test, div, double_shift, mul, scan, shift, unary};
+use rows::{ARITHS, BITS, DIVISIONS, DOUBLE_SHIFTS, PRODUCTS, SCANS, SHIFTS, UNARIES};
+use rz_flags::{ArithOp, Cond, Flags, ScanOp, ShiftOp, UnaryOp, holds, to_word};
 use rz_num::Width;
+
+const CF: u64 = 1;
+
+const PF: u64 = 1 << 2;
+
+const AF: u64 = 1 << 4;
+
+const ZF: u64 = 1 << 6;
+
+const SF: u64 = 1 << 7;
+
+const OF: u64 = 1 << 11;
+
+const STATUS: u64 = CF | PF | AF | ZF | SF | OF;
+
+/// What a scan's destination holds before.
+const OLD: u64 = 0x1122_3344_5566_7788;
 
 const CLEAR: Flags = Flags {
     cf: false,
@@ -14,6 +33,21 @@ const CLEAR: Flags = Flags {
     df: false,
     of: false,
 };
+
+const SET: Flags = Flags {
+    cf: true,
+    pf: true,
+    af: true,
+    zf: true,
+    sf: true,
+    df: true,
+    of: true,
+};
+
+// Whether flags are those before with some of them written.
+fn are_written(flags: Flags, before: Flags, written: u64, set: u64) -> bool {
+    to_word(flags) == (to_word(before) & !written | set)
+}
 
 // Whether exactly these conditions hold after CMP of two bytes.
 fn hold_exactly(a: u64, b: u64, held: [Cond; 8]) -> bool {
@@ -26,6 +60,7 @@ fn hold_exactly(a: u64, b: u64, held: [Cond; 8]) -> bool {
     right
 }
 
+// Above and below speak of unsigned numbers, greater and less of signed ones (volume 2, "Jcc").
 #[test]
 fn conditions_after_cmp(rt: HostRuntime) {
     use Cond::{A, AE, B, BE, E, G, GE, L, LE, NE, NO, NP, NS, O, P, S};
@@ -39,28 +74,121 @@ fn conditions_after_cmp(rt: HostRuntime) {
 }
 
 #[test]
-fn sums_and_differences(rt: HostRuntime) {
-    let (value, flags) = arith(ArithOp::Add, Width::W8, 0x7f, 1, CLEAR);
-    assert_eq!(rt; value, 0x80);
-    assert_eq!(rt;
-        flags,
-        Flags {
-            of: true,
-            sf: true,
-            af: true,
-            ..CLEAR
+fn two_operands(rt: HostRuntime) {
+    for (op, w, a, b, value, set) in ARITHS.iter().copied() {
+        for before in [CLEAR, SET] {
+            if before.cf || !matches!(op, ArithOp::Adc | ArithOp::Sbb) {
+                let (result, flags) = arith(op, w, a, b, before);
+                assert_eq!(rt; result, value);
+                assert!(rt; are_written(flags, before, STATUS, set));
+            }
         }
-    );
-    let (value, flags) = arith(ArithOp::Sub, Width::W32, 0, 1, CLEAR);
-    assert_eq!(rt; value, 0xffff_ffff);
-    assert_eq!(rt;
-        flags,
-        Flags {
-            cf: true,
-            sf: true,
-            af: true,
-            pf: true,
-            ..CLEAR
+    }
+}
+
+#[test]
+fn one_operand(rt: HostRuntime) {
+    for (op, w, a, value, set) in UNARIES.iter().copied() {
+        let written = match op {
+            UnaryOp::Inc | UnaryOp::Dec => STATUS - CF,
+            UnaryOp::Not => 0,
+            UnaryOp::Neg => STATUS,
+        };
+        for before in [CLEAR, SET] {
+            let (result, flags) = unary(op, w, a, before);
+            assert_eq!(rt; result, value);
+            assert!(rt; are_written(flags, before, written, set));
         }
-    );
+    }
+}
+
+#[test]
+fn shifts_and_rotates(rt: HostRuntime) {
+    for (op, w, a, count, value, set) in SHIFTS.iter().copied() {
+        let written = match op {
+            ShiftOp::Rol | ShiftOp::Ror => CF | OF,
+            ShiftOp::Shl | ShiftOp::Shr | ShiftOp::Sar => STATUS,
+        };
+        for before in [CLEAR, SET] {
+            let (result, flags) = shift(op, w, a, count, before);
+            assert_eq!(rt; result, value);
+            assert!(rt; are_written(flags, before, written, set));
+        }
+    }
+}
+
+#[test]
+fn counts_that_leave_all(rt: HostRuntime) {
+    use ShiftOp::{Rol, Ror, Sar, Shl, Shr};
+    for (w, count) in [
+        (Width::W8, 0),
+        (Width::W8, 32),
+        (Width::W16, 64),
+        (Width::W32, 32),
+        (Width::W64, 64),
+    ] {
+        for op in [Rol, Ror, Shl, Shr, Sar] {
+            for before in [CLEAR, SET] {
+                assert!(rt; shift(op, w, 0x81, count, before) == (0x81, before));
+            }
+        }
+    }
+}
+
+#[test]
+fn double_shifts(rt: HostRuntime) {
+    for (left, w, a, b, count, value, set) in DOUBLE_SHIFTS.iter().copied() {
+        for before in [CLEAR, SET] {
+            let (result, flags) = double_shift(left, w, a, b, count, before);
+            assert_eq!(rt; result, value);
+            assert!(rt; are_written(flags, before, STATUS, set));
+        }
+    }
+}
+
+#[test]
+fn products(rt: HostRuntime) {
+    for (w, signed, a, b, low, high, more) in PRODUCTS.iter().copied() {
+        let set = if more { CF | OF } else { 0 };
+        for before in [CLEAR, SET] {
+            let (result_low, result_high, flags) = mul(w, signed, a, b, before);
+            assert_eq!(rt; (result_low, result_high), (low, high));
+            assert!(rt; are_written(flags, before, CF | OF, set));
+        }
+    }
+}
+
+#[test]
+fn divisions(rt: HostRuntime) {
+    for (w, signed, high, low, by, answer) in DIVISIONS.iter().copied() {
+        assert_eq!(rt; div(w, signed, high, low, by), answer);
+    }
+}
+
+#[test]
+fn one_bit(rt: HostRuntime) {
+    for (op, w, a, index, value, carry) in BITS.iter().copied() {
+        let set = if carry { CF } else { 0 };
+        for before in [CLEAR, SET] {
+            let (result, flags) = bit_test(op, w, a, index, before);
+            assert_eq!(rt; result, value);
+            assert!(rt; are_written(flags, before, CF, set));
+        }
+    }
+}
+
+#[test]
+fn scans(rt: HostRuntime) {
+    for (op, w, source, value, set) in SCANS.iter().copied() {
+        let written = match op {
+            ScanOp::Bsf | ScanOp::Bsr => ZF,
+            ScanOp::Tzcnt | ScanOp::Lzcnt => CF | ZF,
+            ScanOp::Popcnt => STATUS,
+        };
+        for before in [CLEAR, SET] {
+            let (result, flags) = scan(op, w, OLD, source, before);
+            assert_eq!(rt; result, value);
+            assert!(rt; are_written(flags, before, written, set));
+        }
+    }
 }

@@ -1,5 +1,5 @@
 -- Sets as lists of their members in the order in which they were first seen, each once.
-use Rattle.std.specs.Prelude.{◌↔◌, ℕ, Bool, IsTrue, ◌&&◌, nat_eq, List, [], ◌∷◌, ◌++◌, fold, if◌then◌else◌}
+use Rattle.std.specs.Prelude.{◌≡◌, ◌↔◌, ℕ, Bool, IsTrue, ◌&&◌, nat_eq, List, [], ◌∷◌, ◌++◌, fold, take, if◌then◌else◌}
 use Rattle.std.specs.declared.cmp.Ordering.{Ordering}
 use Rattle.std.specs.Ordering.{nat_cmp, ordering_then}
 use Rattle.std.specs.List.{list_any}
@@ -19,6 +19,10 @@ with_address xs x = if has xs x then xs else xs ++ x ∷ []
 -- the set with each of a list of addresses
 abbrev pub with_addresses : List ℕ → List ℕ → List ℕ
 with_addresses xs ys = fold with_address xs ys
+
+-- addresses from the front of a list were added, up to some place
+abbrev pub AddsFront : List ℕ → List ℕ → List ℕ → Type 0
+AddsFront old new ys = (n : ℕ) × (new ≡ with_addresses old (take n ys))
 
 -- whether two edges have the same ends
 abbrev pub is_same_edge : ℕ × ℕ → ℕ × ℕ → Bool

@@ -4,7 +4,7 @@ ghost use Rattle.std.specs.Prelude.{◌≡◌, ◌<◌, ◌^◌, ℕ, [], not, l
 ghost use Rattle.std.specs.Ordering.{nat_cmp};
 ghost use Rattle.std.specs.List.{IsDistinct};
 ghost use Rattle.std.specs.List.Sorted.{IsPermutation};
-ghost use Rattle.rz_aset.specs.Sets.{has, with_address, with_addresses};
+ghost use Rattle.rz_aset.specs.Sets.{AddsFront, has, with_address, with_addresses};
 
 use indexmap::IndexSet;
 use rz_num::{OutOfMemory, Words};
@@ -44,9 +44,11 @@ impl AddrSet {
         Ok(self.items.insert(x)?)
     }
 
-    /// Adds the addresses of a slice. It refuses for want of memory alone, and then some of them may have been added.
+    /// Adds the addresses of a slice. It refuses for want of memory alone, and then those from the front of the slice up
+    /// to some place were added.
     pub fn insert_all(&mut self, xs: &[u64]) -> Result<(), OutOfMemory>
         ensures ok { OnOk result (self.new ≡ with_addresses self.old xs.now) }
+        ensures err { OnErr result (AddsFront self.old self.new xs.now) }
     {
         for x in xs {
             self.insert(*x)?;

@@ -9,3 +9,6 @@ pub use addresses::AddrSet;
 pub use edges::EdgeSet;
 pub use kept::Record;
 
+
+#[cfg(test)]
+mod tests;

@@ -1,34 +1,30 @@
-use Rattle.std.proofs.Common.{ℕ, ◌≡◌, ◌+◌, ◌%◌, ◌^◌, ◌≤◌, ◌<◌, ◌==◌, List, [], ◌∷◌, ◌++◌, Option, Some, None, refl, ap, sym, ◌∙◌, subst, arith, length, take, drop, get_or, Bool, true, false, ◌&&◌, zero, suc, length-append, inl, inr}
+use Rattle.std.proofs.Common.{ℕ, ◌≡◌, ◌+◌, ◌%◌, ◌^◌, ◌≤◌, ◌<◌, ◌==◌, List, [], ◌∷◌, ◌++◌, Option, Some, None, refl, ap, sym, ◌∙◌, subst, arith, length, take, drop, get_or, Bool, true, false, zero, suc, inl, inr}
 use Rattle.std.specs.Prelude.{nat_le, nat_lt, min, slice_get, if◌then◌else◌}
-use Rattle.std.specs.List.{take_while, list_any}
+use Rattle.std.specs.List.{take_while}
 use Rattle.std.proofs.lemmas.Bool.{cases_Bool}
 use Rattle.std.proofs.lemmas.Bool.Decides.{nat_tests}
-use Rattle.std.proofs.lemmas.List.{take-append-drop, take_all}
+use Rattle.std.proofs.lemmas.List.{take_all}
 use Rattle.std.proofs.lemmas.Grind.{common_steps}
 use Rattle.std.proofs.lemmas.List.Sums.{take_while-cons}
 use Rattle.rz_isa.specs.declared.decoding.Decoded.{Decoded}
 use Rattle.rz_isa.specs.declared.decoding.Decoded.TheVariants as decodeds
 use Rattle.rz_isa.specs.declared.rows.Row.{Row}
-use Rattle.rz_isa.specs.declared.rows.OpMap.{OpMap}
 use Rattle.rz_isa.specs.declared.rows.RmRule.{RmRule}
-use Rattle.rz_isa.specs.declared.rows.F3Rule.{F3Rule}
-use Rattle.rz_isa.specs.declared.rows.F3Rule.TheVariants as f3s
 use Rattle.rz_isa.specs.Number.{are_bytes}
-use Rattle.rz_isa.specs.Spelling.{Parts, bytes_of, times, is_prefix, rm_fits, opcode_fits}
-use Rattle.rz_isa.specs.Reading.{Opcode, skip_while, behind_rex, opcode_at}
+use Rattle.rz_isa.specs.Spelling.{Parts, bytes_of, is_prefix, rm_fits}
+use Rattle.rz_isa.specs.Reading.{skip_while, behind_rex, opcode_at}
 use Rattle.rz_isa.specs.Fields.{fields, build_op}
 use Rattle.rz_isa.specs.Regular.{is_regular}
-use Rattle.rz_isa.specs.Table.{same_map}
-use Rattle.rz_isa.specs.Index.{has_opcode, is_listed, ListsOpcode}
-use Rattle.rz_isa.specs.Decoded.{Front, front_by, front_at, front_len, front_width, rm_part, imm_part, first_row, last_opcode, missing_f3, parts_of, suits, serves, decoded_by, decoded}
-use Rattle.rz_isa.proofs.Exclusion.{rm_fits_len, same_maps}
+use Rattle.rz_isa.specs.Index.{is_listed}
+use Rattle.rz_isa.specs.Decoded.{Front, front_by, front_at, front_len, front_width, rm_part, imm_part, first_row, last_opcode, parts_of, suits, serves, decoded_by, decoded}
+use Rattle.rz_isa.proofs.Exclusion.{rm_fits_len}
 use Rattle.rz_isa.proofs.Inverse.{regular_of}
-use Rattle.rz_isa.proofs.Tests.{never, some_same, and_parts, and_both}
+use Rattle.rz_isa.proofs.Tests.{some_same, and_both}
 use Rattle.rz_decode.specs.declared.front.Front as fronts
 use Rattle.rz_decode.specs.declared.front.Opcode as opcodes
-use Rattle.rz_decode.specs.Calls.Decode.{IsFront, Says, ListsServing, EndsBeforeOpcode}
+use Rattle.rz_decode.specs.Calls.Decode.{Says, ListsServing, EndsBeforeOpcode}
 use Rattle.rz_decode.specs.Views.{opcode_option, front_view, is_whole_rm}
-use Rattle.rz_decode.proofs.Filling.{last_byte, suits_of, all_parts}
+use Rattle.rz_decode.proofs.Filling.{last_byte, suits_of}
 use Rattle.rz_decode.proofs.Room.{imm_eight}
 use Rattle.rz_decode.proofs.Verdicts.{Laws, Verdict, named, begun, unserved, verdict_by, whole_of}
 use Rattle.rz_decode.proofs.Exactness.{whole_spells, complete_law, short_law, fifteen_law}

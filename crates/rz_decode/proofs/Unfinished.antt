@@ -1,18 +1,16 @@
-use Rattle.std.proofs.Common.{ℕ, ◌≡◌, ◌≤◌, ◌<◌, ◌==◌, List, [], ◌∷◌, ◌++◌, Option, Some, None, refl, ap, sym, ◌∙◌, arith, length, Bool, true, false, nat_eq, inl, inr}
-use Rattle.std.specs.Prelude.{nat_le, slice_get, if◌then◌else◌}
-use Rattle.std.specs.List.{take_while}
+use Rattle.std.proofs.Common.{ℕ, ◌≡◌, ◌≤◌, List, Some, None, ap, sym, ◌∙◌, arith, length, true, false, inl, inr}
+use Rattle.std.specs.Prelude.{nat_le, slice_get}
 use Rattle.std.proofs.lemmas.Bool.{cases_Bool}
 use Rattle.std.proofs.lemmas.Bool.Decides.{nat_tests}
-use Rattle.rz_isa.specs.declared.rows.OpMap.TheVariants as maps
 use Rattle.rz_isa.specs.declared.rows.Row.{Row}
 use Rattle.rz_isa.specs.Number.{are_bytes}
 use Rattle.rz_isa.specs.Spelling.{is_prefix}
-use Rattle.rz_isa.specs.Reading.{Head, Opcode, skip_while, rex_at, behind_rex, second_at, opcode_at, head_at}
+use Rattle.rz_isa.specs.Reading.{Head, skip_while, behind_rex, opcode_at, head_at}
 use Rattle.rz_isa.specs.Table.{is_plain}
-use Rattle.rz_isa.specs.Decoded.{Front, second_for, opcode_for, last_opcode, front_by, front_at, front_len, parts_of, serves}
+use Rattle.rz_isa.specs.Decoded.{front_at, front_len, parts_of, serves}
 use Rattle.rz_isa.proofs.Exclusion.{plain_row, list_all_get}
 use Rattle.rz_isa.proofs.Front.{head_of_spelling}
-use Rattle.rz_isa.proofs.Tests.{some_same, none_some}
+use Rattle.rz_isa.proofs.Tests.{none_some}
 use Rattle.rz_decode.proofs.Verdicts.{Laws, regular_at, whole_of}
 
 -- a spelling has its opcode, so the bytes end before a spelling by a row that serves them does

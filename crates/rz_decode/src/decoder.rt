@@ -11,15 +11,15 @@ use crate::front::{Front, opcode_at, split_prefixes, split_rex, unfinished_front
 use crate::parts::parts_of;
 use rz_isa::{Decoded, InsnTable, Row, build};
 
-fn decode_whole(row: &Row, front: Front, bytes: &[u8], at: u64) -> Decoded
+fn decode_whole(row: &Row, front: &Front, bytes: &[u8], at: u64) -> Decoded
     requires short { length bytes.now ≤ 15 }
-    requires few { length front.prefixes.now ≤ 16 }
-    requires front { front_view front ≡ front_at row.now bytes.now }
+    requires few { length front.now.prefixes.now ≤ 16 }
+    requires front { front_view front.now ≡ front_at row.now bytes.now }
     requires serves { IsTrue (serves_bytes bytes.now row.now) }
     requires regular { IsTrue (is_regular row.now) }
     ensures { result ≡ decoded_by bytes.now at (Some row.now) }
 {
-    let len = front_len(row, &front);
+    let len = front_len(row, front);
     if len > bytes.len() {
         return Decoded::Short;
     }
@@ -32,15 +32,15 @@ fn decode_whole(row: &Row, front: Front, bytes: &[u8], at: u64) -> Decoded
 }
 
 // What the row says of the bytes; `None` where it doesn't take their front.
-fn decode_by(row: &Row, front: Front, bytes: &[u8], at: u64) -> Option<Decoded>
+fn decode_by(row: &Row, front: &Front, bytes: &[u8], at: u64) -> Option<Decoded>
     requires short { length bytes.now ≤ 15 }
-    requires few { length front.prefixes.now ≤ 16 }
-    requires front { front_view front ≡ front_at row.now bytes.now }
+    requires few { length front.now.prefixes.now ≤ 16 }
+    requires front { front_view front.now ≡ front_at row.now bytes.now }
     requires regular { IsTrue (is_regular row.now) }
     ensures some { IfSome result (Says row.now bytes.now at) }
     ensures none { IfNone result (serves_bytes bytes.now row.now ≡ false) }
 {
-    if suits(row, &front) {
+    if suits(row, front) {
         Some(decode_whole(row, front, bytes, at))
     } else {
         None
@@ -48,10 +48,10 @@ fn decode_by(row: &Row, front: Front, bytes: &[u8], at: u64) -> Option<Decoded>
 }
 
 // The bytes have an opcode, and all rows that take it are among the numbers.
-fn decode_among<T: InsnTable>(numbers: &[u8], front: Front, bytes: &[u8], at: u64) -> Decoded
+fn decode_among<T: InsnTable>(numbers: &[u8], front: &Front, bytes: &[u8], at: u64) -> Decoded
     requires short { length bytes.now ≤ 15 }
-    requires few { length front.prefixes.now ≤ 16 }
-    requires front { IsFront bytes.now front }
+    requires few { length front.now.prefixes.now ≤ 16 }
+    requires front { IsFront bytes.now front.now }
     requires listed { ListsServing T.rows bytes.now numbers.now }
     ensures { result ≡ decoded T.rows bytes.now at }
 {
@@ -100,7 +100,7 @@ fn decode_front<T: InsnTable>(bytes: &[u8], at: u64) -> Decoded
                 rex,
                 opcode,
             };
-            decode_among::<T>(numbers, front, bytes, at)
+            decode_among::<T>(numbers, &front, bytes, at)
         }
         None if bytes.len() < 15 => decode_unfinished::<T>(bytes),
         None => Decoded::Unknown,

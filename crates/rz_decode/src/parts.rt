@@ -30,11 +30,11 @@ fn behind(bytes: &[u8], n: usize) -> &[u8]
 }
 
 /// The parts, where all of them are there.
-pub fn parts_of<'a>(row: &Row, f: Front<'a>) -> Parts<'a>
-    ensures { parts_view result ≡ parts_by row.now (front_view f.entry) }
+pub fn parts_of<'a>(row: &Row, f: &Front<'a>) -> Parts<'a>
+    ensures { parts_view result ≡ parts_by row.now (front_view f.now) }
 {
     let rm_len = rm_part(row.rm, f.opcode.rest);
-    let imm_len = imm_part(row, &f);
+    let imm_len = imm_part(row, f);
     Parts {
         prefixes: f.prefixes,
         rex: f.rex,

@@ -4,10 +4,9 @@ use Rattle.std.specs.Prelude.{sum_by, filter, nat_eq, count_ones}
 use Rattle.std.specs.Int.Count.{ones, ones_in, ones_cat}
 use Rattle.std.specs.List.{AllByRecursion, list_any, starts_with}
 use Rattle.std.proofs.lemmas.Bool.Decides.{nat_tests}
-use Rattle.rz_elf.specs.declared.fault.ElfFault.{ElfFault}
-use Rattle.rz_elf.specs.declared.fault.ElfFault.TheVariants as fault
-use Rattle.rz_elf.specs.Elf.{Segment, segments, is_load, loads, file_header, FileHeader, field, Placed, placed_from, placed, against, each, of_segment, is_dynamic, is_stack_code, has_other_flags, is_writable_code, is_larger_in_file, leaves_file, is_misaligned, is_far, isnt_above, shares_page, has_entry, page, last_page, file_conditions, header_conditions, load_conditions, fault_of}
-use Rattle.rz_elf.proofs.Conditions.{NoneHolds, first_of_none, NoneHolds-append, NoneHolds-each}
+use Rattle.rz_elf.specs.Elf.{Segment, segments, is_load, loads, file_header, FileHeader, field, Placed, placed_from, placed, against, is_dynamic, is_stack_code, has_other_flags, is_writable_code, is_larger_in_file, leaves_file, is_misaligned, is_far, isnt_above, shares_page, has_entry, page, last_page, file_conditions, header_conditions, load_conditions, fault_of}
+use Rattle.rz_elf.proofs.Conditions.{NoneHolds, first_of_none, NoneHolds-append}
+use Rattle.rz_elf.proofs.Sound.{IsSound, faultless_where_sound}
 
 -- a load that no condition on one program header refuses, in a file of so many bytes
 pub record IsGoodLoad (len : ℕ) (s : Segment) : Type 0 where
@@ -106,25 +105,46 @@ against_good len test p h k = go p.before p.segment (is_load-good len p.segment 
     go None s l k = rw l refl
     go (Some b) s l k = rw l k
 
+-- a good load is sound
+pub sound_where_good : (len : ℕ) (p : Placed) → IsGoodLoad len p.segment → IsPastAny p.before p.segment → IsSound len p
+sound_where_good len p load past =
+    let good : IsGoodPlaced len p = record { load = load; past = past } in
+    record {
+      fixed_place = not_dynamic len p.segment load;
+      plain_stack = not_stack_code len p.segment load;
+      flags = no_other_flags len p.segment load;
+      fixed = not_writable_code len p.segment load;
+      small = not_larger_in_file len p.segment load;
+      stored = stays_in_file len p.segment load;
+      aligned = not_misaligned len p.segment load;
+      near = not_far len p.segment load;
+      above = against_good len isnt_above p good (stands_above p.before p.segment past);
+      apart = against_good len shares_page p good (shares_no_page p.before p.segment past);
+    }
+
+all_sound : (len : ℕ) (ps : List Placed) → AllByRecursion (IsGoodPlaced len) ps → AllByRecursion (IsSound len) ps
+all_sound len [] h = tt
+all_sound len (p ∷ ps) h = (sound_where_good len p h.0.load h.0.past, all_sound len ps h.1)
+
 header_good : (len : ℕ) (ps : List Placed) → AllByRecursion (IsGoodPlaced len) ps → NoneHolds (header_conditions len ps)
-header_good len ps h =
-    let by : (test : Placed → Bool) (name : ℕ → ElfFault) → ((p : Placed) → IsGoodPlaced len p → test p ≡ false) → NoneHolds (each test name ps) =
-    λ test name t. NoneHolds-each (IsGoodPlaced len) test name t ps h in
-    NoneHolds-append _ _ (by (of_segment is_dynamic) fault.Dynamic (λ p g. not_dynamic len p.segment g.load))
-    (NoneHolds-append _ _ (by (of_segment is_stack_code) fault.StackCode (λ p g. not_stack_code len p.segment g.load))
-    (NoneHolds-append _ _ (by (of_segment has_other_flags) fault.Flags (λ p g. no_other_flags len p.segment g.load))
-    (NoneHolds-append _ _ (by (of_segment is_writable_code) fault.WritableCode (λ p g. not_writable_code len p.segment g.load))
-    (NoneHolds-append _ _ (by (of_segment is_larger_in_file) fault.SizeOrder (λ p g. not_larger_in_file len p.segment g.load))
-    (NoneHolds-append _ _ (by (of_segment (leaves_file len)) fault.FileRange (λ p g. stays_in_file len p.segment g.load))
-    (NoneHolds-append _ _ (by (of_segment is_misaligned) fault.Align (λ p g. not_misaligned len p.segment g.load))
-    (NoneHolds-append _ _ (by (of_segment is_far) fault.Address (λ p g. not_far len p.segment g.load))
-    (NoneHolds-append _ _ (by (against isnt_above) fault.Order (λ p g. against_good len isnt_above p g (stands_above p.before p.segment g.past)))
-    (by (against shares_page) fault.SharedPage (λ p g. against_good len shares_page p g (shares_no_page p.before p.segment g.past)))))))))))
+header_good len ps h = faultless_where_sound len ps (all_sound len ps h)
 
 -- the header of an executable for x86-64 with this entry and this number of program headers right after it
 abbrev pub executable_header : ℕ → ℕ → FileHeader
 executable_header entry count =
     record { file_type = 2; machine = 62; version = 1; entry = entry; table_at = 64; header_size = 64; entry_size = 56; count = count }
+
+-- a file with the header of an executable
+pub record IsHeaded (x : List ℕ) (segs : List Segment) (entry : ℕ) : Type 0 where
+  pub short : length x ≤ 67108864
+  pub whole : 64 + 56 * length segs ≤ length x
+  pub magic : starts_with nat_eq x (0x7f ∷ 0x45 ∷ 0x4c ∷ 0x46 ∷ []) ≡ true
+  pub class : field x 4 1 ≡ 2
+  pub order : field x 5 1 ≡ 1
+  pub version : field x 6 1 ≡ 1
+  pub header : file_header x ≡ executable_header entry (length segs)
+  pub some : 0 < length segs
+  pub few : length segs ≤ 64
 
 -- a file whose headers are good
 pub record HasGoodHeaders (x : List ℕ) (segs : List Segment) (entry : ℕ) : Type 0 where
@@ -145,7 +165,7 @@ pub record HasGoodHeaders (x : List ℕ) (segs : List Segment) (entry : ℕ) : T
 pub loads-good : {x : List ℕ} {segs : List Segment} {entry : ℕ} → HasGoodHeaders x segs entry → loads x ≡ segs
 loads-good {x} {segs} h = rw (h.headers) (loads_good (length x) None segs h.loads)
 
-file_good : (x : List ℕ) (segs : List Segment) (entry : ℕ) → HasGoodHeaders x segs entry → NoneHolds (file_conditions x)
+pub file_good : (x : List ℕ) (segs : List Segment) (entry : ℕ) → IsHeaded x segs entry → NoneHolds (file_conditions x)
 file_good x segs entry h =
     let long = h.short in
     let whole = h.whole in
@@ -203,6 +223,8 @@ fault_of_none {x} {segs} {entry} h =
     let fs = file_conditions x in
     let hs = header_conditions (length x) (placed x) in
     let ls = load_conditions (file_header x).entry (loads x) in
+    let headed : IsHeaded x segs entry =
+    record { short = h.short; whole = h.whole; magic = h.magic; class = h.class; order = h.order; version = h.version; header = h.header; some = h.some; few = h.few } in
     first_of_none (fs ++ (hs ++ ls))
-    (NoneHolds-append fs (hs ++ ls) (file_good x segs entry h)
+    (NoneHolds-append fs (hs ++ ls) (file_good x segs entry headed)
     (NoneHolds-append hs ls (header_good (length x) (placed x) ps) (loads_entered x segs entry h)))

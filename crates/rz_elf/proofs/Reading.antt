@@ -68,7 +68,7 @@ module _ (x : List ℕ) where
   pub table_fits : None ≡ first_of of_file → (file_header x).table_at + 56 * (file_header x).count ≤ length x
   table_fits h = let t = (none_holds of_file (sym h)).1.1.1.1.1.1.1.1.1.1.1.0 in grind (arith, nat_tests, t)
 
-  few_headers : None ≡ first_of of_file → (file_header x).count ≤ 64
+  pub few_headers : None ≡ first_of of_file → (file_header x).count ≤ 64
   few_headers h = let t = (none_holds of_file (sym h)).1.1.1.1.1.1.1.1.1.1.0 in grind (arith, nat_tests, t)
 
   pub few_load_headers : None ≡ first_of of_file → length load_headers ≤ 64

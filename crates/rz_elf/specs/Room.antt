@@ -1,20 +1,14 @@
 -- Whether there is room for added parts: below the lowest load, in the header page, in the file and in memory.
 use Rattle.std.specs.Prelude.{◌≡◌, ℕ, ◌+◌, ◌%◌, ◌<◌, ◌≤◌, if◌then◌else◌, nat_lt, List, length, sum_by, Option, Some, None}
 use Rattle.rz_num.specs.Page.{page_up}
+use Rattle.rz_elf.specs.declared.room.Extent.{Extent}
 use Rattle.rz_elf.specs.declared.room.Room.{Room}
 use Rattle.rz_elf.specs.declared.room.Room.TheVariants as room
 use Rattle.rz_elf.specs.Elf.{loads, image_of}
 use Rattle.rz_elf.specs.AddedRange.{scratch_size, lowest, page_floor}
 use Rattle.rz_elf.specs.WrittenFile.{Parts, kept_segments}
 
--- what a file takes: the address of the page where its lowest load begins, the program headers that are kept of it,
--- its bytes, and those of its loads in memory
-pub record Extent : Type 0 where
-  pub floor : ℕ
-  pub headers : ℕ
-  pub bytes : ℕ
-  pub memory : ℕ
-
+-- the page where the lowest load begins, the program headers that are kept, the bytes, and those of the loads in memory
 abbrev pub extent_of : List ℕ → Extent
 extent_of x =
     record {

@@ -4,6 +4,7 @@ use crate::code::code_at;
 use crate::elf::Elf;
 use crate::fault::{ElfError, ElfFault};
 use crate::read::read_elf;
+use crate::room::{Extent, Room};
 use rz_num::{Bytes, OutOfMemory};
 use std::alloc::Global;
 use std::test::Fail;
@@ -230,5 +231,80 @@ fn code_ends_in_zeros(rt: HostRuntime) -> Result<(), Fail> {
     assert_eq!(rt; code_at(&elf, 0x40_1023, &mut out), 5);
     assert_eq!(rt; &out[..5], [0x69, 0x0a, 0, 0, 0].as_slice());
     assert_eq!(rt; code_at(&elf, 0x40_1028, &mut out), 0);
+    Ok(())
+}
+
+#[test]
+fn room_ends_where_the_limits_are(rt: HostRuntime) -> Result<(), Fail> {
+    let small = Extent {
+        floor: 0x1_4000,
+        headers: 1,
+        bytes: 4133,
+        memory: 37,
+    };
+    for (extent, expected) in [
+        (small, None),
+        (
+            Extent {
+                floor: 0x1_3000,
+                ..small
+            },
+            Some(Room::Low),
+        ),
+        (
+            Extent {
+                floor: 0x1_3000,
+                headers: 61,
+                ..small
+            },
+            Some(Room::Low),
+        ),
+        (
+            Extent {
+                headers: 60,
+                ..small
+            },
+            None,
+        ),
+        (
+            Extent {
+                headers: 61,
+                bytes: 67_108_864,
+                ..small
+            },
+            Some(Room::Headers),
+        ),
+        (
+            Extent {
+                bytes: 67_092_480,
+                ..small
+            },
+            None,
+        ),
+        (
+            Extent {
+                bytes: 67_092_481,
+                memory: 268_435_037,
+                ..small
+            },
+            Some(Room::Length),
+        ),
+        (
+            Extent {
+                memory: 268_419_072,
+                ..small
+            },
+            None,
+        ),
+        (
+            Extent {
+                memory: 268_435_037,
+                ..small
+            },
+            Some(Room::Total),
+        ),
+    ] {
+        assert_eq!(rt; extent.no_room(12_288), expected, "{extent:?}");
+    }
     Ok(())
 }

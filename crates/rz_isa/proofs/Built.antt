@@ -1,34 +1,25 @@
-use Rattle.std.proofs.Common.{ℕ, ◌≡◌, ◌%◌, ◌^◌, ◌<◌, ◌==◌, refl, ap, sym, ◌∙◌, arith, Bool, true, false, ◌&&◌, Some}
+use Rattle.std.proofs.Common.{ℕ, ◌≡◌, ◌%◌, ◌^◌, ◌<◌, ◌==◌, refl, ap, sym, ◌∙◌, arith, Bool, true, false, ◌&&◌, Option, Some}
 use Rattle.std.specs.Prelude.{⊤}
 use Rattle.std.specs.Option.{option_and_then}
 use Rattle.std.proofs.lemmas.Bool.Decides.{nat_tests}
 use Rattle.std.proofs.lemmas.Option.{option_and_then_some}
-use Rattle.rz_flags.specs.declared.Cond.{Cond}
+use Rattle.rz_isa.proofs.Types.{Cond, Letter, Op, Insn, Reg, Place, Operand, Count, BitIndex, Fields}
 use Rattle.rz_flags.specs.declared.Cond.TheVariants as conds
 use Rattle.rz_flags.specs.Cond.{cond_of, number_of as number_of_cond}
-use Rattle.rz_isa.specs.declared.rows.Letter.{Letter}
 use Rattle.rz_isa.specs.declared.rows.Letter.TheVariants as letters
-use Rattle.rz_isa.specs.declared.rows.Op.{Op}
 use Rattle.rz_isa.specs.declared.rows.Op.TheVariants as ops
-use Rattle.rz_isa.specs.declared.instruction.Insn.{Insn}
 use Rattle.rz_isa.specs.declared.instruction.Insn.TheVariants as insns
-use Rattle.rz_isa.specs.declared.instruction.Reg.{Reg}
 use Rattle.rz_isa.specs.declared.instruction.Reg.TheVariants as regs
-use Rattle.rz_isa.specs.declared.instruction.Place.{Place}
 use Rattle.rz_isa.specs.declared.instruction.Place.TheVariants as places
-use Rattle.rz_isa.specs.declared.instruction.Operand.{Operand}
 use Rattle.rz_isa.specs.declared.instruction.Operand.TheVariants as operands
-use Rattle.rz_isa.specs.declared.instruction.Count.{Count}
 use Rattle.rz_isa.specs.declared.instruction.Count.TheVariants as counts
-use Rattle.rz_isa.specs.declared.instruction.BitIndex.{BitIndex}
 use Rattle.rz_isa.specs.declared.instruction.BitIndex.TheVariants as indexes
-use Rattle.rz_isa.specs.declared.spelled.Fields.{Fields}
 use Rattle.rz_isa.specs.Fields.{build_op, letter_width, is_rep, place_at, operand_at, reg_at, number_of, number_at, count_at, index_at}
 use Rattle.rz_isa.specs.Having.{is_first}
 use Rattle.rz_isa.specs.Finding.{with_place, with_operand, with_reg, with_number, with_count, with_index, same_width, same_truth, same_arith, same_unary, same_wide, same_shift, same_bit, same_scan, same_change, rep_byte, found_in}
 use Rattle.rz_isa.proofs.Equal.{same_width-is, same_truth-is, same_arith-is, same_unary-is, same_wide-is, same_shift-is, same_bit-is, same_scan-is, same_change-is}
 use Rattle.rz_isa.specs.Regular.{Slot, nowhere, in_rm, in_reg, in_imm, place_slot, operand_slot, reg_slot, count_slot, index_slot, apart, operands_apart}
-use Rattle.rz_isa.proofs.Tests.{and_parts, some_same, passed, through}
+use Rattle.rz_isa.proofs.Tests.{and_parts, some_same, passed, through, and_three, equal_is}
 
 -- ---- a step changes the field of its letter alone
 
@@ -67,14 +58,11 @@ with_reg-step _ r f g e = let s = some_same _ g e in (ap (λ (k : Fields). k.reg
 pub with_number-step : (l : Letter) (n : ℕ) (f g : Fields) → with_number l n f ≡ Some g → (number_at l g ≡ n) × Kept (reg_slot l) f g
 with_number-step l n f g e = let t = with_reg-step l (regs.R n) f g e in (ap number_of t.0, t.1)
 
-one_is : (n : ℕ) → (n == 1) ≡ true → 1 ≡ n
-one_is n e = grind (arith, nat_tests)
-
 cut : (n k : ℕ) → k ≡ n → k < 2 ^ 8 → k % 2 ^ 8 ≡ n
 cut n k e lt = omega arith
 
 pub with_count-step : (l : Letter) (c : Count) (f g : Fields) → g.imm < 2 ^ 8 → with_count l c f ≡ Some g → (count_at l g ≡ c) × Kept (count_slot l) f g
-with_count-step letters.One (counts.Imm n) f g small e = let t = through (n == 1) f g e in (ap counts.Imm (one_is n t.0), sym t.1)
+with_count-step letters.One (counts.Imm n) f g small e = let t = through (n == 1) f g e in (ap counts.Imm (sym (equal_is n 1 t.0)), sym t.1)
 with_count-step letters.One counts.Cl f g small e = absurd (cc)
 with_count-step letters.Cl (counts.Imm n) f g small e = absurd (cc)
 with_count-step letters.Cl counts.Cl f g small e = (refl, sym (some_same f g e))
@@ -90,76 +78,63 @@ with_index-step _ (indexes.Imm n) f g small e = absurd (cc)
 -- ---- what another step leaves
 
 pub place_kept : (l : Letter) (t : Slot) (f g : Fields) → apart (place_slot l) t ≡ true → Kept t f g → place_at l g ≡ place_at l f
-place_kept letters.G in_reg f g a k = absurd (cc)
-place_kept letters.G nowhere f g a k = ap (λ (x : Fields). places.Reg x.reg) k
-place_kept letters.G in_rm f g a k = ap (λ (x : Fields). places.Reg x.reg) k
-place_kept letters.G in_imm f g a k = ap (λ (x : Fields). places.Reg x.reg) k
-place_kept letters.O in_reg f g a k = absurd (cc)
-place_kept letters.O nowhere f g a k = ap (λ (x : Fields). places.Reg x.reg) k
-place_kept letters.O in_rm f g a k = ap (λ (x : Fields). places.Reg x.reg) k
-place_kept letters.O in_imm f g a k = ap (λ (x : Fields). places.Reg x.reg) k
 place_kept letters.A t f g a k = refl
+place_kept letters.G in_reg f g a k = absurd (cc)
+place_kept letters.G _ f g a k = ap (λ (x : Fields). places.Reg x.reg) k
+place_kept letters.O in_reg f g a k = absurd (cc)
+place_kept letters.O _ f g a k = ap (λ (x : Fields). places.Reg x.reg) k
 place_kept _ in_rm f g a k = absurd (cc)
-place_kept _ nowhere f g a k = ap (λ (x : Fields). x.rm) k
-place_kept _ in_reg f g a k = ap (λ (x : Fields). x.rm) k
-place_kept _ in_imm f g a k = ap (λ (x : Fields). x.rm) k
+place_kept _ _ f g a k = ap (λ (x : Fields). x.rm) k
 
 pub reg_kept : (l : Letter) (t : Slot) (f g : Fields) → apart (reg_slot l) t ≡ true → Kept t f g → reg_at l g ≡ reg_at l f
 reg_kept letters.A t f g a k = refl
 reg_kept _ in_reg f g a k = absurd (cc)
-reg_kept _ nowhere f g a k = ap (λ (x : Fields). x.reg) k
-reg_kept _ in_rm f g a k = ap (λ (x : Fields). x.reg) k
-reg_kept _ in_imm f g a k = ap (λ (x : Fields). x.reg) k
-
-pub number_kept : (l : Letter) (t : Slot) (f g : Fields) → apart (reg_slot l) t ≡ true → Kept t f g → number_at l g ≡ number_at l f
-number_kept l t f g a k = ap number_of (reg_kept l t f g a k)
+reg_kept _ _ f g a k = ap (λ (x : Fields). x.reg) k
 
 pub w_kept : (t : Slot) (f g : Fields) → Kept t f g → g.w ≡ f.w
-w_kept nowhere f g k = ap (λ (x : Fields). x.w) k
 w_kept in_rm f g k = ap (λ (x : Fields). x.w) k
-w_kept in_reg f g k = ap (λ (x : Fields). x.w) k
-w_kept in_imm f g k = ap (λ (x : Fields). x.w) k
+w_kept _ f g k = ap (λ (x : Fields). x.w) k
 
 pub cond_kept : (t : Slot) (f g : Fields) → Kept t f g → g.cond ≡ f.cond
-cond_kept nowhere f g k = ap (λ (x : Fields). x.cond) k
 cond_kept in_rm f g k = ap (λ (x : Fields). x.cond) k
-cond_kept in_reg f g k = ap (λ (x : Fields). x.cond) k
-cond_kept in_imm f g k = ap (λ (x : Fields). x.cond) k
+cond_kept _ f g k = ap (λ (x : Fields). x.cond) k
 
 -- the immediate of a product stands before its operands
 place_imm : (l : Letter) (f g : Fields) → Kept (place_slot l) f g → g.imm ≡ f.imm
 place_imm letters.G f g k = ap (λ (x : Fields). x.imm) k
-place_imm letters.O f g k = ap (λ (x : Fields). x.imm) k
-place_imm letters.A f g k = ap (λ (x : Fields). x.imm) k
 place_imm _ f g k = ap (λ (x : Fields). x.imm) k
 
 reg_imm : (l : Letter) (f g : Fields) → Kept (reg_slot l) f g → g.imm ≡ f.imm
 reg_imm letters.A f g k = ap (λ (x : Fields). x.imm) k
 reg_imm _ f g k = ap (λ (x : Fields). x.imm) k
 
--- ---- two operands
+-- ---- two operands: what a step gave stays, if the next one changes another field
 
-pub record TwoPlaces (d s : Letter) (p : Place) (o : Operand) (f g : Fields) : Type 0 where
-  pub w : g.w ≡ f.w
-  pub dst : place_at d g ≡ p
-  pub src : operand_at s g ≡ o
+record PlaceIs (d : Letter) (p : Place) (f g : Fields) : Type 0 where
+  w : g.w ≡ f.w
+  dst : place_at d g ≡ p
 
-pub place_operand : (d s : Letter) (p : Place) (o : Operand) (f g : Fields) → apart (place_slot d) (operand_slot s) ≡ true
-    → option_and_then (with_operand s o) (with_place d p f) ≡ Some g → TwoPlaces d s p o f g
-place_operand d s p o f g a e = option_and_then_some (with_operand s o) (with_place d p f) g e (λ m em eg.
+place_stays : (d : Letter) (p : Place) (t : Slot) (f m g : Fields) → apart (place_slot d) t ≡ true → Kept t m g → PlaceIs d p f m → PlaceIs d p f g
+place_stays d p t f m g a k h = record { w = w_kept t m g k ∙ h.w; dst = place_kept d t m g a k ∙ h.dst }
+
+place_and : (d : Letter) (p : Place) (t : Slot) (Q : Type 0) (k : Fields → Option Fields) (f g : Fields) → apart (place_slot d) t ≡ true → ((m : Fields) → k m ≡ Some g → Q × Kept t m g) → option_and_then k (with_place d p f) ≡ Some g
+    → PlaceIs d p f g × Q
+place_and d p t Q k f g a next e = option_and_then_some k (with_place d p f) g e (λ m em eg.
     let x = with_place-step d p f m em in
-    let y = with_operand-step s o m g eg in
-    record { w = w_kept (operand_slot s) m g y.1 ∙ w_kept (place_slot d) f m x.1; dst = place_kept d (operand_slot s) m g a y.1 ∙ x.0; src = y.0 })
+    let y = next m eg in
+    (place_stays d p t f m g a y.1 (record { w = w_kept (place_slot d) f m x.1; dst = x.0 }), y.0))
 
-pub record NumberPlace (d s : Letter) (n : ℕ) (p : Place) (f g : Fields) : Type 0 where
-  pub w : g.w ≡ f.w
-  pub cond : g.cond ≡ f.cond
-  pub imm : g.imm ≡ f.imm
-  pub dst : number_at d g ≡ n
-  pub src : place_at s g ≡ p
+place_operand : (d s : Letter) (p : Place) (o : Operand) (f g : Fields) → apart (place_slot d) (operand_slot s) ≡ true → option_and_then (with_operand s o) (with_place d p f) ≡ Some g → PlaceIs d p f g × (operand_at s g ≡ o)
+place_operand d s p o f g a e = place_and d p (operand_slot s) _ (with_operand s o) f g a (λ m eg. with_operand-step s o m g eg) e
 
-pub number_place : (d s : Letter) (n : ℕ) (p : Place) (f g : Fields) → apart (reg_slot d) (place_slot s) ≡ true
-    → option_and_then (with_place s p) (with_number d n f) ≡ Some g → NumberPlace d s n p f g
+record NumberPlace (d s : Letter) (n : ℕ) (p : Place) (f g : Fields) : Type 0 where
+  w : g.w ≡ f.w
+  cond : g.cond ≡ f.cond
+  imm : g.imm ≡ f.imm
+  dst : number_at d g ≡ n
+  src : place_at s g ≡ p
+
+number_place : (d s : Letter) (n : ℕ) (p : Place) (f g : Fields) → apart (reg_slot d) (place_slot s) ≡ true → option_and_then (with_place s p) (with_number d n f) ≡ Some g → NumberPlace d s n p f g
 number_place d s n p f g a e = option_and_then_some (with_place s p) (with_number d n f) g e (λ m em eg.
     let x = with_number-step d n f m em in
     let y = with_place-step s p m g eg in
@@ -167,84 +142,23 @@ number_place d s n p f g a e = option_and_then_some (with_place s p) (with_numbe
       w = w_kept (place_slot s) m g y.1 ∙ w_kept (reg_slot d) f m x.1;
       cond = cond_kept (place_slot s) m g y.1 ∙ cond_kept (reg_slot d) f m x.1;
       imm = place_imm s m g y.1 ∙ reg_imm d f m x.1;
-      dst = number_kept d (place_slot s) m g a y.1 ∙ x.0;
+      dst = ap number_of (reg_kept d (place_slot s) m g a y.1) ∙ x.0;
       src = y.0;
     })
 
-pub record PlaceAnd (d : Letter) (p : Place) (B : Fields → Type 0) (f g : Fields) : Type 0 where
-  pub w : g.w ≡ f.w
-  pub dst : place_at d g ≡ p
-  pub other : B g
-
-pub place_count : (d c : Letter) (p : Place) (x : Count) (f g : Fields) → g.imm < 2 ^ 8 → apart (place_slot d) (count_slot c) ≡ true
-    → option_and_then (with_count c x) (with_place d p f) ≡ Some g → PlaceAnd d p (λ k. count_at c k ≡ x) f g
-place_count d c p x f g small a e = option_and_then_some (with_count c x) (with_place d p f) g e (λ m em eg.
-    let u = with_place-step d p f m em in
-    let v = with_count-step c x m g small eg in
-    record { w = w_kept (count_slot c) m g v.1 ∙ w_kept (place_slot d) f m u.1; dst = place_kept d (count_slot c) m g a v.1 ∙ u.0; other = v.0 })
-
-pub place_index : (d i : Letter) (p : Place) (x : BitIndex) (f g : Fields) → g.imm < 2 ^ 8 → apart (place_slot d) (index_slot i) ≡ true
-    → option_and_then (with_index i x) (with_place d p f) ≡ Some g → PlaceAnd d p (λ k. index_at i k ≡ x) f g
-place_index d i p x f g small a e = option_and_then_some (with_index i x) (with_place d p f) g e (λ m em eg.
-    let u = with_place-step d p f m em in
-    let v = with_index-step i x m g small eg in
-    record { w = w_kept (index_slot i) m g v.1 ∙ w_kept (place_slot d) f m u.1; dst = place_kept d (index_slot i) m g a v.1 ∙ u.0; other = v.0 })
-
-pub place_reg : (d s : Letter) (p : Place) (r : Reg) (f g : Fields) → apart (place_slot d) (reg_slot s) ≡ true
-    → option_and_then (with_reg s r) (with_place d p f) ≡ Some g → PlaceAnd d p (λ k. reg_at s k ≡ r) f g
-place_reg d s p r f g a e = option_and_then_some (with_reg s r) (with_place d p f) g e (λ m em eg.
-    let u = with_place-step d p f m em in
-    let v = with_reg-step s r m g eg in
-    record { w = w_kept (reg_slot s) m g v.1 ∙ w_kept (place_slot d) f m u.1; dst = place_kept d (reg_slot s) m g a v.1 ∙ u.0; other = v.0 })
-
-pub place_number : (d s : Letter) (p : Place) (n : ℕ) (f g : Fields) → apart (place_slot d) (reg_slot s) ≡ true
-    → option_and_then (with_number s n) (with_place d p f) ≡ Some g → PlaceAnd d p (λ k. number_at s k ≡ n) f g
-place_number d s p n f g a e =
-    let r = place_reg d s p (regs.R n) f g a e in
-    record { w = r.w; dst = r.dst; other = ap number_of r.other }
-
-pub record PlaceNumberCount (d s c : Letter) (p : Place) (n : ℕ) (x : Count) (f g : Fields) : Type 0 where
-  pub w : g.w ≡ f.w
-  pub dst : place_at d g ≡ p
-  pub src : number_at s g ≡ n
-  pub count : count_at c g ≡ x
-
-three : (a b c : Bool) → (a && b && c) ≡ true → (a ≡ true) × (b ≡ true) × (c ≡ true)
-three a b c h = (grind arith, grind arith, grind arith)
-
-pub place_number_count : (d s c : Letter) (p : Place) (n : ℕ) (x : Count) (f g : Fields) → g.imm < 2 ^ 8
-    → (apart (place_slot d) (reg_slot s) && apart (place_slot d) (count_slot c) && apart (reg_slot s) (count_slot c)) ≡ true
-    → option_and_then (with_count c x) (option_and_then (with_number s n) (with_place d p f)) ≡ Some g → PlaceNumberCount d s c p n x f g
+place_number_count : (d s c : Letter) (p : Place) (n : ℕ) (x : Count) (f g : Fields) → g.imm < 2 ^ 8 → (apart (place_slot d) (reg_slot s) && apart (place_slot d) (count_slot c) && apart (reg_slot s) (count_slot c)) ≡ true
+    → option_and_then (with_count c x) (option_and_then (with_number s n) (with_place d p f)) ≡ Some g → PlaceIs d p f g × (number_at s g ≡ n) × (count_at c g ≡ x)
 place_number_count d s c p n x f g small a e = option_and_then_some (with_count c x) (option_and_then (with_number s n) (with_place d p f)) g e (λ m em eg.
-    let t = three (apart (place_slot d) (reg_slot s)) (apart (place_slot d) (count_slot c)) (apart (reg_slot s) (count_slot c)) a in
-    let u = place_number d s p n f m t.0 em in
+    let t = and_three (apart (place_slot d) (reg_slot s)) (apart (place_slot d) (count_slot c)) (apart (reg_slot s) (count_slot c)) a in
+    let u = place_and d p (reg_slot s) _ (with_number s n) f m t.0 (λ k ek. with_number-step s n k m ek) em in
     let v = with_count-step c x m g small eg in
-    record {
-      w = w_kept (count_slot c) m g v.1 ∙ u.w;
-      dst = place_kept d (count_slot c) m g t.1 v.1 ∙ u.dst;
-      src = number_kept s (count_slot c) m g t.2 v.1 ∙ u.other;
-      count = v.0;
-    })
+    (place_stays d p (count_slot c) f m g t.1 v.1 u.0, ap number_of (reg_kept s (count_slot c) m g t.2 v.1) ∙ u.1, v.0))
 
 -- ---- the condition's number
 
 pub cond_again : (c : Cond) → cond_of (number_of_cond c % 16) ≡ c
 cond_again conds.O = refl
-cond_again conds.NO = refl
-cond_again conds.B = refl
-cond_again conds.AE = refl
-cond_again conds.E = refl
-cond_again conds.NE = refl
-cond_again conds.BE = refl
-cond_again conds.A = refl
-cond_again conds.S = refl
-cond_again conds.NS = refl
-cond_again conds.P = refl
-cond_again conds.NP = refl
-cond_again conds.L = refl
-cond_again conds.GE = refl
-cond_again conds.LE = refl
-cond_again conds.G = refl
+cond_again _ = refl
 
 rep_again : (rep : Bool) → is_rep (rep_byte rep) ≡ rep
 rep_again true = refl
@@ -264,9 +178,9 @@ built (ops.Arith o d s) (insns.Arith p w dst src) f g a small e =
     let t = passed (same_arith o p) _ g e in
     let q = same_arith-is o p t.0 in
     let r = place_operand d s dst src _ g a t.1 in
-    λ i. insns.Arith (q i) (r.w i) (r.dst i) (r.src i)
-built (ops.Test d s) (insns.Test w dst src) f g a small e = let r = place_operand d s dst src _ g a e in λ i. insns.Test (r.w i) (r.dst i) (r.src i)
-built (ops.Mov d s) (insns.Mov w dst src) f g a small e = let r = place_operand d s dst src _ g a e in λ i. insns.Mov (r.w i) (r.dst i) (r.src i)
+    λ i. insns.Arith (q i) (r.0.w i) (r.0.dst i) (r.1 i)
+built (ops.Test d s) (insns.Test w dst src) f g a small e = let r = place_operand d s dst src _ g a e in λ i. insns.Test (r.0.w i) (r.0.dst i) (r.1 i)
+built (ops.Mov d s) (insns.Mov w dst src) f g a small e = let r = place_operand d s dst src _ g a e in λ i. insns.Mov (r.0.w i) (r.0.dst i) (r.1 i)
 built (ops.Lea d s) (insns.Lea w dst src) f g a small e = let r = number_place d s dst src _ g a e in λ i. insns.Lea (r.w i) (r.dst i) (r.src i)
 built (ops.Extend o d s) (insns.Extend p to from dst src) f g a small e =
     let t = passed (same_truth o p && same_width from (letter_width s to)) _ g e in
@@ -298,13 +212,13 @@ built (ops.Imul3 d s k) (insns.Imul3 w dst src imm) f g a small e = let r = numb
 built (ops.Shift o d c) (insns.Shift p w dst count) f g a small e =
     let t = passed (same_shift o p) _ g e in
     let q = same_shift-is o p t.0 in
-    let r = place_count d c dst count _ g small a t.1 in
-    λ i. insns.Shift (q i) (r.w i) (r.dst i) (r.other i)
+    let r = place_and d dst (count_slot c) _ (with_count c count) _ g a (λ m em. with_count-step c count m g small em) t.1 in
+    λ i. insns.Shift (q i) (r.0.w i) (r.0.dst i) (r.1 i)
 built (ops.DoubleShift o d s c) (insns.DoubleShift p w dst src count) f g a small e =
     let t = passed (same_truth o p) _ g e in
     let q = same_truth-is o p t.0 in
     let r = place_number_count d s c dst src count _ g small a t.1 in
-    λ i. insns.DoubleShift (q i) (r.w i) (r.dst i) (r.src i) (r.count i)
+    λ i. insns.DoubleShift (q i) (r.0.w i) (r.0.dst i) (r.1 i) (r.2 i)
 built (ops.Cmov d s) (insns.Cmov c w dst src) f g a small e =
     let r = number_place d s dst src _ g a e in
     let q = ap (λ k. cond_of (k % 16)) r.cond ∙ cond_again c in
@@ -329,7 +243,7 @@ built ops.Ret (insns.Ret pop) f g a small e = let t = ap (λ (k : Fields). k.imm
     cut16 n k e lt = omega arith
 built ops.Convert (insns.Convert w) f g a small e = ap (λ (k : Fields). insns.Convert k.w) (sym (some_same _ g e))
 built ops.SignFill (insns.SignFill w) f g a small e = ap (λ (k : Fields). insns.SignFill k.w) (sym (some_same _ g e))
-built (ops.Xchg d s) (insns.Xchg w dst src) f g a small e = let r = place_reg d s dst src _ g a e in λ i. insns.Xchg (r.w i) (r.dst i) (r.other i)
+built (ops.Xchg d s) (insns.Xchg w dst src) f g a small e = let r = place_and d dst (reg_slot s) _ (with_reg s src) _ g a (λ m em. with_reg-step s src m g em) e in λ i. insns.Xchg (r.0.w i) (r.0.dst i) (r.1 i)
 built ops.Nop insns.Nop f g a small e = refl
 built (ops.Bswap d) (insns.Bswap w reg) f g a small e =
     let r = with_number-step d reg _ g e in
@@ -338,8 +252,8 @@ built (ops.Bswap d) (insns.Bswap w reg) f g a small e =
 built (ops.BitTest o d k) (insns.BitTest p w dst index) f g a small e =
     let t = passed (same_bit o p) _ g e in
     let q = same_bit-is o p t.0 in
-    let r = place_index d k dst index _ g small a t.1 in
-    λ i. insns.BitTest (q i) (r.w i) (r.dst i) (r.other i)
+    let r = place_and d dst (index_slot k) _ (with_index k index) _ g a (λ m em. with_index-step k index m g small em) t.1 in
+    λ i. insns.BitTest (q i) (r.0.w i) (r.0.dst i) (r.1 i)
 built (ops.Scan o d s) (insns.Scan p w dst src) f g a small e =
     let t = passed (same_scan o p) _ g e in
     let q = same_scan-is o p t.0 in

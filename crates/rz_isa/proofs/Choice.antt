@@ -1,17 +1,12 @@
 use Rattle.std.proofs.Common.{ℕ, zero, suc, ◌≡◌, ◌+◌, ◌-◌, ◌%◌, ◌^◌, ◌<◌, ◌≤◌, refl, ap, sym, ◌∙◌, subst, arith, List, [], ◌∷◌, length, Bool, true, false, ◌&&◌, inl, inr, Option, Some, None}
-use Rattle.std.specs.Prelude.{nat_lt, slice_get, is_some, if◌then◌else◌}
+use Rattle.std.specs.Prelude.{nat_lt, slice_get, is_some, IsSome, if◌then◌else◌}
 use Rattle.std.specs.List.{list_all}
 use Rattle.std.proofs.lemmas.Bool.{cases_Bool}
 use Rattle.std.proofs.lemmas.Bool.Decides.{nat_tests}
-use Rattle.rz_isa.specs.declared.rows.Form.{Form}
+use Rattle.rz_isa.proofs.Types.{Form, RmRule, Row, Insn, Place, Fields}
 use Rattle.rz_isa.specs.declared.rows.Form.TheVariants as forms
-use Rattle.rz_isa.specs.declared.rows.RmRule.{RmRule}
 use Rattle.rz_isa.specs.declared.rows.RmRule.TheVariants as rules
-use Rattle.rz_isa.specs.declared.rows.Row.{Row}
-use Rattle.rz_isa.specs.declared.instruction.Insn.{Insn}
-use Rattle.rz_isa.specs.declared.instruction.Place.{Place}
 use Rattle.rz_isa.specs.declared.instruction.Place.TheVariants as places
-use Rattle.rz_isa.specs.declared.spelled.Fields.{Fields}
 use Rattle.rz_isa.specs.Spelling.{bytes_of, rex_bytes, escape, imm_len, SpelledBy}
 use Rattle.rz_isa.specs.Fields.{fields, build_op}
 use Rattle.rz_isa.specs.Having.{code_of}
@@ -19,7 +14,7 @@ use Rattle.rz_isa.specs.Finding.{found}
 use Rattle.rz_isa.specs.Regular.{is_regular}
 use Rattle.rz_isa.specs.Spells.{next_address, RowSpells, CanHave, Builds, NoneBuilds}
 use Rattle.rz_isa.specs.Canonical.{rm_bytes, imm_value, parts_for, reaches, length_for, same_form, Chosen, or_chosen, chosen_by, spelled_at}
-use Rattle.rz_isa.specs.Table.{SpelledSomewhere, IsCanonicalRow, OneCanonicalRow, CanonicalSpells}
+use Rattle.rz_isa.specs.Table.{SpelledSomewhere, IsCanonicalRow, OneCanonicalRow, HasChosen, CanonicalSpells}
 use Rattle.rz_isa.proofs.Exclusion.{list_all_get}
 use Rattle.rz_isa.proofs.Inverse.{builds_found}
 use Rattle.rz_isa.proofs.Inverse as inverse
@@ -175,20 +170,33 @@ chosen_first find (r ∷ rows) form c e = elim (cases_Bool (same_form r.form for
   | inl same ↦ here find rows form c r (find r) refl same (λ h. chosen_first find rows form c h) (sym (ap (λ k. if k then or_chosen r (find r) (chosen_by find rows form) else chosen_by find rows form) same) ∙ e)
 ]
 
+chosen_some : (find : Row → Option Fields) (rows : List Row) (form : Form) (m : ℕ) (q : Row) → slice_get rows m ≡ Some q → serves_by find form q ≡ true → IsSome (chosen_by find rows form)
+chosen_some find [] form m q at holds = absurd (grind arith)
+chosen_some find (r ∷ rows) form m q at holds = by (same_form r.form form) (find r) m at refl (λ k e. chosen_some find rows form k q e holds)
+  where
+    -- where the row doesn't serve, a later one does
+    later_row : (m : ℕ) → slice_get (r ∷ rows) m ≡ Some q → serves_by find form r ≡ false → ((k : ℕ) → slice_get rows k ≡ Some q → IsSome (chosen_by find rows form)) → IsSome (chosen_by find rows form)
+    later_row zero e miss rest = absurd (never _ (ap (serves_by find form) (some_same r q e) ∙ holds) miss)
+    later_row (suc k) e miss rest = rest k e
+
+    by : (b : Bool) (o : Option Fields) (m : ℕ) → slice_get (r ∷ rows) m ≡ Some q → serves_by find form r ≡ (b && is_some o) → ((k : ℕ) → slice_get rows k ≡ Some q → IsSome (chosen_by find rows form))
+        → IsSome (if b then or_chosen r o (chosen_by find rows form) else chosen_by find rows form)
+    by true (Some f) m e s rest = refl
+    by true None m e s rest = later_row m e s rest
+    by false o m e s rest = later_row m e s rest
+
+pub has_chosen : (rows : List Row) → list_all is_regular rows ≡ true → HasChosen rows
+has_chosen rows regular x form m q at same somewhere = chosen_some (λ r. found r x) rows form m q at
+    (and_both (same_form q.form form) (is_some (found q x)) (form_same q.form form same) (somewhere_found q x (list_all_get is_regular rows m q regular at) somewhere))
+
 -- ---- the canonical spelling
 
 rm_length : (rm : Option RmRule) (digit : Option ℕ) (code a b : ℕ) (p : Place) → length (rm_bytes rm digit code a p) ≡ length (rm_bytes rm digit code b p)
 rm_length None digit code a b p = refl
 rm_length (Some (rules.Fixed k)) digit code a b p = refl
-rm_length (Some rules.Any) digit code a b (places.Reg r) = refl
-rm_length (Some rules.Any) digit code a b (places.Mem m) = refl
-rm_length (Some rules.Any) digit code a b (places.At t) = refl
-rm_length (Some rules.MemoryOnly) digit code a b (places.Reg r) = refl
-rm_length (Some rules.MemoryOnly) digit code a b (places.Mem m) = refl
-rm_length (Some rules.MemoryOnly) digit code a b (places.At t) = refl
-rm_length (Some rules.RegisterOnly) digit code a b (places.Reg r) = refl
-rm_length (Some rules.RegisterOnly) digit code a b (places.Mem m) = refl
-rm_length (Some rules.RegisterOnly) digit code a b (places.At t) = refl
+rm_length (Some _) digit code a b (places.Reg r) = refl
+rm_length (Some _) digit code a b (places.Mem m) = refl
+rm_length (Some _) digit code a b (places.At t) = refl
 
 -- its length depends on the row and the fields alone
 pub length_is : (row : Row) (f : Fields) (a b : ℕ) → length (bytes_of row (parts_for row f a)) ≡ length (bytes_of row (parts_for row f b))

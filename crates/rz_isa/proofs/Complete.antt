@@ -2,24 +2,15 @@ use Rattle.std.proofs.Common.{ℕ, zero, suc, ◌≡◌, ◌+◌, ◌-◌, ◌*�
 use Rattle.std.specs.Prelude.{nat_lt, is_some, if◌then◌else◌}
 use Rattle.std.proofs.lemmas.Bool.{cases_Bool}
 use Rattle.std.proofs.lemmas.Bool.Decides.{nat_tests}
-use Rattle.rz_num.specs.declared.width.Width.{Width}
-use Rattle.rz_num.specs.declared.width.Width.TheVariants.{W8, W16, W32, W64}
-use Rattle.rz_isa.specs.declared.rows.OpMap.{OpMap}
+use Rattle.rz_isa.proofs.Types.{Width, W8, W16, W32, W64, OpMap, F3Rule, Size, RmRule, ImmKind, Row, Op, Place}
 use Rattle.rz_isa.specs.declared.rows.OpMap.TheVariants as maps
-use Rattle.rz_isa.specs.declared.rows.F3Rule.{F3Rule}
 use Rattle.rz_isa.specs.declared.rows.F3Rule.TheVariants as f3s
-use Rattle.rz_isa.specs.declared.rows.Size.{Size}
 use Rattle.rz_isa.specs.declared.rows.Size.TheVariants as sizes
-use Rattle.rz_isa.specs.declared.rows.RmRule.{RmRule}
 use Rattle.rz_isa.specs.declared.rows.RmRule.TheVariants as rules
-use Rattle.rz_isa.specs.declared.rows.ImmKind.{ImmKind}
 use Rattle.rz_isa.specs.declared.rows.ImmKind.TheVariants as imms
-use Rattle.rz_isa.specs.declared.rows.Row.{Row}
 use Rattle.rz_isa.specs.declared.rows.Letter.TheVariants as letters
-use Rattle.rz_isa.specs.declared.rows.Op.{Op}
 use Rattle.rz_isa.specs.declared.rows.Op.TheVariants as ops
 use Rattle.rz_isa.specs.declared.instruction.Reg.TheVariants as regs
-use Rattle.rz_isa.specs.declared.instruction.Place.{Place}
 use Rattle.rz_isa.specs.declared.instruction.Place.TheVariants as places
 use Rattle.rz_isa.specs.Number.{are_bytes, number, numbers, extended, displaced_by}
 use Rattle.rz_isa.specs.Spelling.{Parts, Fits, bit_w, bit_r, bit_x, bit_b, is_met, w_demand, b_demand, disp_len, rm_len, second, rm_fits, width_of, width_at, imm_len, times}
@@ -29,56 +20,32 @@ use Rattle.rz_isa.specs.Regular.{is_regular, is_block, is_exchange}
 use Rattle.rz_isa.proofs.Numbers.{number_less, numbers_of, numbers_full, signed_is_disp, extended_byte, extended_four}
 use Rattle.rz_isa.proofs.Again.{can_of}
 use Rattle.rz_isa.proofs.Inverse.{IsRegular, regular_of}
-use Rattle.rz_isa.proofs.Tests.{never}
+use Rattle.rz_isa.proofs.Tests.{never, if_true, if_false, if_both, and_three, all_three, equal_is, or_left, or_right, below_test}
+use Rattle.rz_isa.proofs.Lesser.{first_low}
 
 -- The fields of a spelling are fields that its row can have.
-
--- ---- choices
-
-pub if_true : {X : Type 0} (b : Bool) (x y : X) → b ≡ true → (if b then x else y) ≡ x
-if_true b x y e = ap (λ k. if k then x else y) e
-
-pub if_false : {X : Type 0} (b : Bool) (x y : X) → b ≡ false → (if b then x else y) ≡ y
-if_false b x y e = ap (λ k. if k then x else y) e
-
--- what holds on both ways holds of the choice
-pub if_both : {X : Type 0} (P : X → Type 0) (b : Bool) (x y : X) → (b ≡ true → P x) → (b ≡ false → P y) → P (if b then x else y)
-if_both P true x y f g = f refl
-if_both P false x y f g = g refl
 
 -- ---- the width
 
 pub width_had : (c : Size) (b n : ℕ) → has_width c (width_of c b n) ≡ true
-width_had sizes.B b n = refl
 width_had sizes.V b n = if_both (λ w. has_width sizes.V w ≡ true) (b == 1) W64 (if n == 0 then W32 else W16) (λ _. refl) (λ _. if_both (λ w. has_width sizes.V w ≡ true) (n == 0) W32 W16 (λ _. refl) (λ _. refl))
 width_had sizes.D b n = if_both (λ w. has_width sizes.D w ≡ true) (n == 0) W32 W16 (λ _. refl) (λ _. refl)
 width_had sizes.Y b n = if_both (λ w. has_width sizes.Y w ≡ true) (b == 1) W64 W32 (λ _. refl) (λ _. refl)
-width_had sizes.Q b n = refl
-width_had sizes.WQ b n = refl
-width_had sizes.N b n = refl
+width_had _ b n = refl
 
 -- ---- registers
 
 pub code_again : (w : Width) (rex : Option ℕ) (n : ℕ) → code_of (reg_of w rex n) ≡ n
 code_again W8 None n = if_both (λ r. code_of r ≡ n) (nat_lt n 4) (regs.R n) (regs.High (n - 4)) (λ _. refl) (λ e. (let le : 4 ≤ n = grind (arith, nat_tests) in omega arith))
-code_again W8 (Some r) n = refl
-code_again W16 rex n = refl
-code_again W32 rex n = refl
-code_again W64 rex n = refl
+code_again _ rex n = refl
 
 pub registered : (w : Width) (rex : Option ℕ) (n : ℕ) → n < 16 → (rex ≡ None → n < 8) → is_register w (reg_of w rex n) ≡ true
 registered W8 None n lt low = (let l = low refl in if_both (λ r. is_register W8 r ≡ true) (nat_lt n 4) (regs.R n) (regs.High (n - 4)) (λ e. grind (arith, nat_tests)) (λ e. grind (arith, nat_tests)))
-registered W8 (Some r) n lt low = grind (arith, nat_tests)
-registered W16 rex n lt low = grind (arith, nat_tests)
-registered W32 rex n lt low = grind (arith, nat_tests)
-registered W64 rex n lt low = grind (arith, nat_tests)
+registered _ rex n lt low = grind (arith, nat_tests)
 
 first_again : (w : Width) (rex : Option ℕ) → is_first (reg_of w rex 0) ≡ true
 first_again W8 None = refl
-first_again W8 (Some r) = refl
-first_again W16 rex = refl
-first_again W32 rex = refl
-first_again W64 rex = refl
+first_again _ rex = refl
 
 -- three bits and a bit of REX
 pub with_bit : (low bit : ℕ) → low < 8 → bit < 2 → low + 8 * bit < 16
@@ -125,12 +92,8 @@ reg_of_parts None digit span w p = elim (cases_Bool (span == 8)) [
   | inr n ↦ ap (λ k. if k then is_register w (reg_of w p.rex (if k then p.opcode % 8 + 8 * bit_b p.rex else 0)) else is_first (reg_of w p.rex (if k then p.opcode % 8 + 8 * bit_b p.rex else 0))) n ∙ first_again w p.rex
 ]
 reg_of_parts (Some (rules.Fixed b)) digit span w p = first_again w p.rex
-reg_of_parts (Some rules.Any) (Some d) span w p = first_again w p.rex
-reg_of_parts (Some rules.Any) None span w p = reg_registered w p
-reg_of_parts (Some rules.MemoryOnly) (Some d) span w p = first_again w p.rex
-reg_of_parts (Some rules.MemoryOnly) None span w p = reg_registered w p
-reg_of_parts (Some rules.RegisterOnly) (Some d) span w p = first_again w p.rex
-reg_of_parts (Some rules.RegisterOnly) None span w p = reg_registered w p
+reg_of_parts (Some _) (Some d) span w p = first_again w p.rex
+reg_of_parts (Some _) None span w p = reg_registered w p
 
 -- ---- memory
 
@@ -144,11 +107,8 @@ quarter (suc (suc zero)) lt = refl
 quarter (suc (suc (suc zero))) lt = refl
 quarter (suc (suc (suc (suc n)))) lt = absurd (omega arith)
 
-four_tests : (a b c : Bool) → a ≡ true → b ≡ true → c ≡ true → (a && b && c) ≡ true
-four_tests a b c ea eb ec = grind arith
-
 index_number : (n s : ℕ) → n < 16 → s < 4 → is_index (index_of n) (if is_some (index_of n) then 2 ^ s else 1) ≡ true
-index_number n s ln ls = if_both (λ o. is_index o (if is_some o then 2 ^ s else 1) ≡ true) (n == 4) None (Some n) (λ _. refl) (λ e. four_tests (nat_lt n 16) (not (n == 4)) (2 ^ s == 1 || 2 ^ s == 2 || 2 ^ s == 4 || 2 ^ s == 8) (grind (arith, nat_tests)) (grind (arith, nat_tests)) (quarter s ls))
+index_number n s ln ls = if_both (λ o. is_index o (if is_some o then 2 ^ s else 1) ≡ true) (n == 4) None (Some n) (λ _. refl) (λ e. all_three (nat_lt n 16) (not (n == 4)) (2 ^ s == 1 || 2 ^ s == 2 || 2 ^ s == 4 || 2 ^ s == 8) (grind (arith, nat_tests)) (grind (arith, nat_tests)) (quarter s ls))
 
 behind_bytes : (bs : List ℕ) → are_bytes bs ≡ true → are_bytes (behind_one bs) ≡ true
 behind_bytes [] h = refl
@@ -159,13 +119,13 @@ behind_short [] h = omega arith
 behind_short (b ∷ bs) h = omega arith
 
 sib_memory : (mode sib : ℕ) (rex : Option ℕ) (disp : List ℕ) → sib < 256 → are_bytes disp ≡ true → length disp ≤ 4 → is_memory (sib_mem mode sib rex disp) ≡ true
-sib_memory mode sib rex disp lt h short = four_tests _ _ _
+sib_memory mode sib rex disp lt h short = all_three _ _ _
     (base_number mode (sib % 8) (bit_b rex) (omega arith) (b_bit rex))
     (index_number (sib / 8 % 8 + 8 * bit_x rex) (sib / 64) (with_bit (sib / 8 % 8) (bit_x rex) (omega arith) (x_bit rex)) (omega arith))
     (signed_is_disp disp h short)
 
 base_memory : (low : ℕ) (rex : Option ℕ) (disp : List ℕ) → low < 8 → are_bytes disp ≡ true → length disp ≤ 4 → is_memory (base_mem low rex disp) ≡ true
-base_memory low rex disp lt h short = four_tests _ _ _ (grind (arith, nat_tests, b_bit rex)) refl (signed_is_disp disp h short)
+base_memory low rex disp lt h short = all_three _ _ _ (grind (arith, nat_tests, b_bit rex)) refl (signed_is_disp disp h short)
 
 second_byte : (m : ℕ) (rest : List ℕ) → are_bytes rest ≡ true → second (m ∷ rest) < 256
 second_byte m [] h = omega arith
@@ -176,9 +136,6 @@ disp_short mode low = grind arith
 
 address_small : (a : ℕ) → nat_lt (a % 2 ^ 64) (2 ^ 64) ≡ true
 address_small a = (let lt : a % 2 ^ 64 < 2 ^ 64 = omega arith in grind (arith, nat_tests))
-
-or_left : (a b : Bool) → a ≡ true → (a || b) ≡ true
-or_left a b e = grind arith
 
 -- mod 11 names a register, every other mod names memory
 pub place_register : (v : Width) (rex : Option ℕ) (next m : ℕ) (rest : List ℕ) → (m / 64 == 3) ≡ true → names_register v (place_of v rex next (m ∷ rest)) ≡ true
@@ -201,15 +158,6 @@ place_memory v rex next m rest h len n = ap names_memory (if_false (m / 64 == 3)
 
 -- ---- the ModRM operand
 
-fixed_false : (b : Bool) → b ≡ true → b ≡ false → ⊥
-fixed_false b t f = cc
-
-rm_parts : (a b c : Bool) → (a && b && c) ≡ true → (a ≡ true) × (b ≡ true) × (c ≡ true)
-rm_parts a b c h = (grind arith, grind arith, grind arith)
-
-rm_length : (n k : ℕ) → (n == k) ≡ true → n ≡ k
-rm_length n k h = grind (arith, nat_tests)
-
 pub place_had : (rm : Option RmRule) (digit : Option ℕ) (v : Width) (rex : Option ℕ) (next : ℕ) (bs : List ℕ) → rm_fits rm digit bs ≡ true → are_bytes bs ≡ true
     → has_place rm v (rm_place rm v rex next bs) ≡ true
 place_had None digit v rex next [] fit h = refl
@@ -217,22 +165,19 @@ place_had None digit v rex next (m ∷ rest) fit h = absurd (cc)
 place_had (Some rule) digit v rex next [] fit h = absurd (cc)
 place_had (Some (rules.Fixed b)) digit v rex next (m ∷ rest) fit h = refl
 place_had (Some rules.Any) digit v rex next (m ∷ rest) fit h =
-    let t = rm_parts true (is_met digit (m / 8 % 8)) (1 + length rest == rm_len m (second (m ∷ rest))) fit in
+    let t = and_three true (is_met digit (m / 8 % 8)) (1 + length rest == rm_len m (second (m ∷ rest))) fit in
     elim (cases_Bool (m / 64 == 3)) [
       | inl y ↦ or_left _ _ (place_register v rex next m rest y)
-      | inr n ↦ or_right _ _ (place_memory v rex next m rest (grind arith) (rm_length _ _ t.2) n)
+      | inr n ↦ or_right _ _ (place_memory v rex next m rest (grind arith) (equal_is _ _ t.2) n)
     ]
-  where
-    or_right : (a b : Bool) → b ≡ true → (a || b) ≡ true
-    or_right a b e = grind arith
 place_had (Some rules.MemoryOnly) digit v rex next (m ∷ rest) fit h =
-    let t = rm_parts (not (m / 64 == 3)) (is_met digit (m / 8 % 8)) (1 + length rest == rm_len m (second (m ∷ rest))) fit in
-    place_memory v rex next m rest (grind arith) (rm_length _ _ t.2) (unnot (m / 64 == 3) t.0)
+    let t = and_three (not (m / 64 == 3)) (is_met digit (m / 8 % 8)) (1 + length rest == rm_len m (second (m ∷ rest))) fit in
+    place_memory v rex next m rest (grind arith) (equal_is _ _ t.2) (unnot (m / 64 == 3) t.0)
   where
     unnot : (b : Bool) → not b ≡ true → b ≡ false
     unnot b h = grind arith
 place_had (Some rules.RegisterOnly) digit v rex next (m ∷ rest) fit h =
-    let t = rm_parts (m / 64 == 3) (is_met digit (m / 8 % 8)) (1 + length rest == rm_len m (second (m ∷ rest))) fit in
+    let t = and_three (m / 64 == 3) (is_met digit (m / 8 % 8)) (1 + length rest == rm_len m (second (m ∷ rest))) fit in
     place_register v rex next m rest t.0
 
 -- ---- the other fields
@@ -243,20 +188,17 @@ cond_of_opcode span o = elim (cases_Bool (span == 16)) [
   | inr n ↦ ap (λ k. if k then nat_lt (if k then o % 16 else 0) 16 else (if k then o % 16 else 0) == 0) n
 ]
 
-below : (n m : ℕ) → n < m → nat_lt n m ≡ true
-below n m lt = grind (arith, nat_tests)
-
 number_below : (bs : List ℕ) (m : ℕ) → are_bytes bs ≡ true → numbers bs ≡ m → nat_lt (number bs) m ≡ true
-number_below bs m h e = below (number bs) m (subst (λ k. number bs < k) e (number_less bs h))
+number_below bs m h e = below_test (number bs) m (subst (λ k. number bs < k) e (number_less bs h))
 
 pub imm_had : (k : Option ImmKind) (w : Width) (next : ℕ) (bs : List ℕ) → are_bytes bs ≡ true → length bs ≡ imm_len k w → has_imm k w (imm_of k w next bs) ≡ true
 imm_had None w next bs h len = refl
 imm_had (Some imms.Ib) w next bs h len = number_below bs (2 ^ 8) h (numbers_of bs 1 len)
 imm_had (Some imms.Ibs) w next bs h len = extended_byte bs w h len
 imm_had (Some imms.Iw) w next bs h len = number_below bs (2 ^ 16) h (numbers_of bs 2 len)
-imm_had (Some imms.Iz) W8 next bs h len = below (extended bs % 2 ^ 8) (2 ^ 8) (omega arith)
-imm_had (Some imms.Iz) W16 next bs h len = below (extended bs % 2 ^ 16) (2 ^ 16) (omega arith)
-imm_had (Some imms.Iz) W32 next bs h len = below (extended bs % 2 ^ 32) (2 ^ 32) (omega arith)
+imm_had (Some imms.Iz) W8 next bs h len = below_test (extended bs % 2 ^ 8) (2 ^ 8) (omega arith)
+imm_had (Some imms.Iz) W16 next bs h len = below_test (extended bs % 2 ^ 16) (2 ^ 16) (omega arith)
+imm_had (Some imms.Iz) W32 next bs h len = below_test (extended bs % 2 ^ 32) (2 ^ 32) (omega arith)
 imm_had (Some imms.Iz) W64 next bs h len = extended_four bs h len
 imm_had (Some imms.Iv) W8 next bs h len = number_below bs (2 ^ 8) h (numbers_full W8 bs len)
 imm_had (Some imms.Iv) W16 next bs h len = number_below bs (2 ^ 16) h (numbers_full W16 bs len)
@@ -276,49 +218,33 @@ rep_of_prefixes _ b h = refl
 
 not_high : (w : Width) (r n : ℕ) → is_high (reg_of w (Some r) n) ≡ false
 not_high W8 r n = refl
-not_high W16 r n = refl
-not_high W32 r n = refl
-not_high W64 r n = refl
+not_high _ r n = refl
+
+-- what holds of a register, of memory and of an address holds of the place that the bytes name
+place_cases : (P : Place → Type 0) (v : Width) (rex : Option ℕ) (next : ℕ) (bs : List ℕ) → P (places.Reg (regs.R 0)) → ((low : ℕ) → low < 8 → P (places.Reg (reg_of v rex (low + 8 * bit_b rex))))
+    → ((mode sib : ℕ) (disp : List ℕ) → P (places.Mem (sib_mem mode sib rex disp))) → ((low : ℕ) (disp : List ℕ) → low < 8 → P (places.Mem (base_mem low rex disp))) → ((a : ℕ) → P (places.At a)) → P (place_of v rex next bs)
+place_cases P v rex next [] none reg sib base at = none
+place_cases P v rex next (m ∷ rest) none reg sib base at =
+    if_both P (m / 64 == 3) _ _ (λ _. reg (m % 8) (eighth_low m)) (λ _. if_both P (m % 8 == 4) _ _ (λ _. sib (m / 64) (second (m ∷ rest)) (behind_one rest))
+    (λ _. if_both P (m / 64 == 0 && m % 8 == 5) _ _ (λ _. at (displaced_by next rest)) (λ _. base (m % 8) rest (eighth_low m))))
 
 place_not_high : (v : Width) (r next : ℕ) (bs : List ℕ) → high_place (place_of v (Some r) next bs) ≡ false
-place_not_high v r next [] = refl
-place_not_high v r next (m ∷ rest) =
-    if_both (λ p. high_place p ≡ false) (m / 64 == 3) (places.Reg (reg_of v (Some r) (m % 8 + 8 * bit_b (Some r)))) _ (λ _. not_high v r (m % 8 + 8 * bit_b (Some r)))
-    (λ _. if_both (λ p. high_place p ≡ false) (m % 8 == 4) (places.Mem (sib_mem (m / 64) (second (m ∷ rest)) (Some r) (behind_one rest))) _ (λ _. refl)
-    (λ _. if_both (λ p. high_place p ≡ false) (m / 64 == 0 && m % 8 == 5) (places.At (displaced_by next rest)) (places.Mem (base_mem (m % 8) (Some r) rest)) (λ _. refl) (λ _. refl)))
+place_not_high v r next bs = place_cases (λ p. high_place p ≡ false) v (Some r) next bs refl (λ low _. not_high v r (low + 8 * bit_b (Some r))) (λ mode sib disp. refl) (λ low disp _. refl) (λ a. refl)
 
 rm_not_high : (rm : Option RmRule) (v : Width) (r next : ℕ) (bs : List ℕ) → high_place (rm_place rm v (Some r) next bs) ≡ false
-rm_not_high None v r next bs = place_not_high v r next bs
-rm_not_high (Some rules.Any) v r next bs = place_not_high v r next bs
-rm_not_high (Some rules.MemoryOnly) v r next bs = place_not_high v r next bs
-rm_not_high (Some rules.RegisterOnly) v r next bs = place_not_high v r next bs
 rm_not_high (Some (rules.Fixed b)) v r next bs = refl
+rm_not_high _ v r next bs = place_not_high v r next bs
 
 not_low : (w : Width) (n : ℕ) → is_low_byte w (reg_of w None n) ≡ false
 not_low W8 n = if_both (λ r. is_low_byte W8 r ≡ false) (nat_lt n 4) (regs.R n) (regs.High (n - 4)) (λ e. grind (arith, nat_tests)) (λ _. refl)
-not_low W16 n = refl
-not_low W32 n = refl
-not_low W64 n = refl
-
-first_not_low : (w : Width) → is_low_byte w (regs.R 0) ≡ false
-first_not_low W8 = refl
-first_not_low W16 = refl
-first_not_low W32 = refl
-first_not_low W64 = refl
+not_low _ n = refl
 
 place_not_low : (v : Width) (next : ℕ) (bs : List ℕ) → low_byte_place v (place_of v None next bs) ≡ false
-place_not_low v next [] = first_not_low v
-place_not_low v next (m ∷ rest) =
-    if_both (λ p. low_byte_place v p ≡ false) (m / 64 == 3) (places.Reg (reg_of v None (m % 8 + 8 * bit_b None))) _ (λ _. not_low v (m % 8 + 8 * bit_b None))
-    (λ _. if_both (λ p. low_byte_place v p ≡ false) (m % 8 == 4) (places.Mem (sib_mem (m / 64) (second (m ∷ rest)) None (behind_one rest))) _ (λ _. refl)
-    (λ _. if_both (λ p. low_byte_place v p ≡ false) (m / 64 == 0 && m % 8 == 5) (places.At (displaced_by next rest)) (places.Mem (base_mem (m % 8) None rest)) (λ _. refl) (λ _. refl)))
+place_not_low v next bs = place_cases (λ p. low_byte_place v p ≡ false) v None next bs (first_low v) (λ low _. not_low v (low + 8 * bit_b None)) (λ mode sib disp. refl) (λ low disp _. refl) (λ a. refl)
 
 rm_not_low : (rm : Option RmRule) (v : Width) (next : ℕ) (bs : List ℕ) → low_byte_place v (rm_place rm v None next bs) ≡ false
-rm_not_low None v next bs = place_not_low v next bs
-rm_not_low (Some rules.Any) v next bs = place_not_low v next bs
-rm_not_low (Some rules.MemoryOnly) v next bs = place_not_low v next bs
-rm_not_low (Some rules.RegisterOnly) v next bs = place_not_low v next bs
-rm_not_low (Some (rules.Fixed b)) v next bs = first_not_low v
+rm_not_low (Some (rules.Fixed b)) v next bs = first_low v
+rm_not_low _ v next bs = place_not_low v next bs
 
 -- ---- the bits of REX that the fields need are among those that stand there
 
@@ -333,51 +259,33 @@ w_of_size sizes.WQ b n lt m = grind (arith, nat_tests)
 w_of_size sizes.N b n lt m = omega arith
 
 place_x : (v : Width) (rex : Option ℕ) (next : ℕ) (bs : List ℕ) → x_needed (place_of v rex next bs) ≤ bit_x rex
-place_x v rex next [] = omega arith
-place_x v rex next (m ∷ rest) =
-    if_both (λ p. x_needed p ≤ bit_x rex) (m / 64 == 3) (places.Reg (reg_of v rex (m % 8 + 8 * bit_b rex))) _ (λ _. omega arith)
-    (λ _. if_both (λ p. x_needed p ≤ bit_x rex) (m % 8 == 4) (places.Mem (sib_mem (m / 64) (second (m ∷ rest)) rex (behind_one rest))) _ (λ _. indexed (second (m ∷ rest) / 8 % 8) (bit_x rex) (omega arith))
-    (λ _. if_both (λ p. x_needed p ≤ bit_x rex) (m / 64 == 0 && m % 8 == 5) (places.At (displaced_by next rest)) (places.Mem (base_mem (m % 8) rex rest)) (λ _. omega arith) (λ _. omega arith)))
+place_x v rex next bs = place_cases (λ p. x_needed p ≤ bit_x rex) v rex next bs (omega arith) (λ low _. omega arith) (λ mode sib disp. indexed (sib / 8 % 8) (bit_x rex) (omega arith)) (λ low disp _. omega arith) (λ a. omega arith)
   where
     indexed : (low b : ℕ) → low < 8 → number_in (index_of (low + 8 * b)) / 8 ≤ b
     indexed low b lt = if_both (λ o. number_in o / 8 ≤ b) (low + 8 * b == 4) None (Some (low + 8 * b)) (λ _. omega arith) (λ _. omega arith)
 
 rm_x : (rm : Option RmRule) (v : Width) (rex : Option ℕ) (next : ℕ) (bs : List ℕ) → x_needed (rm_place rm v rex next bs) ≤ bit_x rex
-rm_x None v rex next bs = place_x v rex next bs
-rm_x (Some rules.Any) v rex next bs = place_x v rex next bs
-rm_x (Some rules.MemoryOnly) v rex next bs = place_x v rex next bs
-rm_x (Some rules.RegisterOnly) v rex next bs = place_x v rex next bs
 rm_x (Some (rules.Fixed b)) v rex next bs = omega arith
+rm_x _ v rex next bs = place_x v rex next bs
 
 reg_b : (v : Width) (rex : Option ℕ) (low b : ℕ) → low < 8 → code_of (reg_of v rex (low + 8 * b)) / 8 ≤ b
 reg_b v rex low b lt = subst (λ k. k / 8 ≤ b) (sym (code_again v rex (low + 8 * b))) (omega arith)
 
 place_of_b : (v : Width) (rex : Option ℕ) (next : ℕ) (bs : List ℕ) → place_b (place_of v rex next bs) ≤ bit_b rex
-place_of_b v rex next [] = omega arith
-place_of_b v rex next (m ∷ rest) =
-    if_both (λ p. place_b p ≤ bit_b rex) (m / 64 == 3) (places.Reg (reg_of v rex (m % 8 + 8 * bit_b rex))) _ (λ _. reg_b v rex (m % 8) (bit_b rex) (eighth_low m))
-    (λ _. if_both (λ p. place_b p ≤ bit_b rex) (m % 8 == 4) (places.Mem (sib_mem (m / 64) (second (m ∷ rest)) rex (behind_one rest))) _ (λ _. based (m / 64) (second (m ∷ rest) % 8) (bit_b rex) (omega arith))
-    (λ _. if_both (λ p. place_b p ≤ bit_b rex) (m / 64 == 0 && m % 8 == 5) (places.At (displaced_by next rest)) (places.Mem (base_mem (m % 8) rex rest)) (λ _. omega arith) (λ _. omega arith)))
+place_of_b v rex next bs = place_cases (λ p. place_b p ≤ bit_b rex) v rex next bs (omega arith) (λ low lt. reg_b v rex low (bit_b rex) lt) (λ mode sib disp. based mode (sib % 8) (bit_b rex) (omega arith)) (λ low disp lt. omega arith) (λ a. omega arith)
   where
     based : (mode low b : ℕ) → low < 8 → number_in (base_of mode low b) / 8 ≤ b
     based mode low b lt = if_both (λ o. number_in o / 8 ≤ b) (mode == 0 && low == 5) None (Some (low + 8 * b)) (λ _. omega arith) (λ _. omega arith)
 
 rm_b : (rm : Option RmRule) (v : Width) (rex : Option ℕ) (next : ℕ) (bs : List ℕ) → place_b (rm_place rm v rex next bs) ≤ bit_b rex
-rm_b None v rex next bs = place_of_b v rex next bs
-rm_b (Some rules.Any) v rex next bs = place_of_b v rex next bs
-rm_b (Some rules.MemoryOnly) v rex next bs = place_of_b v rex next bs
-rm_b (Some rules.RegisterOnly) v rex next bs = place_of_b v rex next bs
 rm_b (Some (rules.Fixed b)) v rex next bs = omega arith
+rm_b _ v rex next bs = place_of_b v rex next bs
 
 reg_r : (rm : Option RmRule) (digit : Option ℕ) (span : ℕ) (w : Width) (p : Parts) → (if in_reg_field rm digit then code_of (reg_of w p.rex (reg_number rm digit span p)) / 8 else 0) ≤ bit_r p.rex
 reg_r None digit span w p = omega arith
 reg_r (Some (rules.Fixed b)) digit span w p = omega arith
-reg_r (Some rules.Any) (Some d) span w p = omega arith
-reg_r (Some rules.Any) None span w p = reg_b w p.rex (reg_field p.rm) (bit_r p.rex) (field_low p.rm)
-reg_r (Some rules.MemoryOnly) (Some d) span w p = omega arith
-reg_r (Some rules.MemoryOnly) None span w p = reg_b w p.rex (reg_field p.rm) (bit_r p.rex) (field_low p.rm)
-reg_r (Some rules.RegisterOnly) (Some d) span w p = omega arith
-reg_r (Some rules.RegisterOnly) None span w p = reg_b w p.rex (reg_field p.rm) (bit_r p.rex) (field_low p.rm)
+reg_r (Some _) (Some d) span w p = omega arith
+reg_r (Some _) None span w p = reg_b w p.rex (reg_field p.rm) (bit_r p.rex) (field_low p.rm)
 
 opcode_b : (rm : Option RmRule) (digit : Option ℕ) (span : ℕ) (w v : Width) (p : Parts) (next : ℕ)
     → (if in_opcode rm span then code_of (reg_of w p.rex (reg_number rm digit span p)) / 8 else place_b (rm_place rm v p.rex next p.rm)) ≤ bit_b p.rex
@@ -480,9 +388,6 @@ exchange_eight x b h e = grind arith
 opcode_again : (base o b : ℕ) → base % 8 ≡ 0 → base ≤ o → o < base + 8 → b < 2 → (base + (o % 8 + 8 * b) % 8 ≡ o) × ((o % 8 + 8 * b) / 8 ≡ b)
 opcode_again base o b z le lt small = (omega arith, omega arith)
 
-span_is : (s : ℕ) → (s == 8) ≡ true → s ≡ 8
-span_is s e = grind (arith, nat_tests)
-
 pub demand_met : (row : Row) (p : Parts) (next : ℕ) → IsRegular row → Fits row p
     → is_met (b_demand row.op row.map (opcode_of row (fields row p next))) (b_needed row (fields row p next)) ≡ true
 demand_met row p next reg fit = elim (cases_Bool (is_some (b_demand row.op row.map 0x90))) [
@@ -498,7 +403,7 @@ demand_met row p next reg fit = elim (cases_Bool (is_some (b_demand row.op row.m
             let code : code_of (reg_of w p.rex (reg_number row.rm row.digit row.span p)) ≡ p.opcode % 8 + 8 * bit_b p.rex = code_again w p.rex _ ∙ number in
             let le : row.opcode ≤ p.opcode = grind (arith, nat_tests, fit.opcode) in
             let lt0 : p.opcode < row.opcode + row.span = grind (arith, nat_tests, fit.opcode) in
-            let lt : p.opcode < row.opcode + 8 = subst (λ k. p.opcode < row.opcode + k) (span_is row.span y) lt0 in
+            let lt : p.opcode < row.opcode + 8 = subst (λ k. p.opcode < row.opcode + k) (equal_is row.span 8 y) lt0 in
             let o = opcode_again row.opcode p.opcode (bit_b p.rex) (eight_aligned row reg.block y) le lt (b_bit p.rex) in
             let opcode : opcode_of row (fields row p next) ≡ p.opcode = ap (λ k. row.opcode + k) (if_true (in_opcode row.rm row.span) _ _ at ∙ ap (λ k. k % 8) code) ∙ o.0 in
             let bit : b_needed row (fields row p next) ≡ bit_b p.rex = if_true (in_opcode row.rm row.span) _ _ at ∙ (ap (λ k. k / 8) code ∙ o.1) in
@@ -523,7 +428,7 @@ fields_had row p next regular fit rm imm =
       reg = reg_of_parts row.rm row.digit row.span w p;
       rm = place_had row.rm row.digit (rm_width row.op w) p.rex next p.rm fit.rm rm;
       cond = cond_of_opcode row.span p.opcode;
-      imm = imm_had row.imm w next p.imm imm (rm_length (length p.imm) (imm_len row.imm w) fit.imm);
+      imm = imm_had row.imm w next p.imm imm (equal_is (length p.imm) (imm_len row.imm w) fit.imm);
       rep = rep_of_prefixes row.f3 (repeat_in p.prefixes) (repeat_in-is p.prefixes);
       rex = rex_joined row p next fit;
       b = demand_met row p next (regular_of row regular) fit;

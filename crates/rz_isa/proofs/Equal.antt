@@ -1,19 +1,11 @@
 use Rattle.std.proofs.Common.{◌≡◌, refl, Bool, true, false}
-use Rattle.rz_num.specs.declared.width.Width.{Width}
-use Rattle.rz_num.specs.declared.width.Width.TheVariants.{W8, W16, W32, W64}
-use Rattle.rz_flags.specs.declared.ArithOp.{ArithOp}
+use Rattle.rz_isa.proofs.Types.{Width, W8, W16, W32, W64, ArithOp, UnaryOp, WideOp, ShiftOp, BitOp, ScanOp, FlagOp}
 use Rattle.rz_flags.specs.declared.ArithOp.TheVariants as ariths
-use Rattle.rz_flags.specs.declared.UnaryOp.{UnaryOp}
 use Rattle.rz_flags.specs.declared.UnaryOp.TheVariants as unaries
-use Rattle.rz_flags.specs.declared.WideOp.{WideOp}
 use Rattle.rz_flags.specs.declared.WideOp.TheVariants as wides
-use Rattle.rz_flags.specs.declared.ShiftOp.{ShiftOp}
 use Rattle.rz_flags.specs.declared.ShiftOp.TheVariants as shifts
-use Rattle.rz_flags.specs.declared.BitOp.{BitOp}
 use Rattle.rz_flags.specs.declared.BitOp.TheVariants as bits
-use Rattle.rz_flags.specs.declared.ScanOp.{ScanOp}
 use Rattle.rz_flags.specs.declared.ScanOp.TheVariants as scans
-use Rattle.rz_flags.specs.declared.FlagOp.{FlagOp}
 use Rattle.rz_flags.specs.declared.FlagOp.TheVariants as changes
 use Rattle.rz_isa.specs.Finding.{same_width, same_truth, same_arith, same_unary, same_wide, same_shift, same_bit, same_scan, same_change}
 
@@ -28,9 +20,7 @@ same_width-is _ _ e = absurd (cc)
 
 pub same_width-refl : (a : Width) → same_width a a ≡ true
 same_width-refl W8 = refl
-same_width-refl W16 = refl
-same_width-refl W32 = refl
-same_width-refl W64 = refl
+same_width-refl _ = refl
 
 pub same_truth-is : (a b : Bool) → same_truth a b ≡ true → a ≡ b
 same_truth-is true true e = refl
@@ -39,7 +29,7 @@ same_truth-is _ _ e = absurd (cc)
 
 pub same_truth-refl : (a : Bool) → same_truth a a ≡ true
 same_truth-refl true = refl
-same_truth-refl false = refl
+same_truth-refl _ = refl
 
 pub same_arith-is : (a b : ArithOp) → same_arith a b ≡ true → a ≡ b
 same_arith-is ariths.Add ariths.Add e = refl
@@ -54,13 +44,7 @@ same_arith-is _ _ e = absurd (cc)
 
 pub same_arith-refl : (a : ArithOp) → same_arith a a ≡ true
 same_arith-refl ariths.Add = refl
-same_arith-refl ariths.Or = refl
-same_arith-refl ariths.Adc = refl
-same_arith-refl ariths.Sbb = refl
-same_arith-refl ariths.And = refl
-same_arith-refl ariths.Sub = refl
-same_arith-refl ariths.Xor = refl
-same_arith-refl ariths.Cmp = refl
+same_arith-refl _ = refl
 
 pub same_unary-is : (a b : UnaryOp) → same_unary a b ≡ true → a ≡ b
 same_unary-is unaries.Inc unaries.Inc e = refl
@@ -71,9 +55,7 @@ same_unary-is _ _ e = absurd (cc)
 
 pub same_unary-refl : (a : UnaryOp) → same_unary a a ≡ true
 same_unary-refl unaries.Inc = refl
-same_unary-refl unaries.Dec = refl
-same_unary-refl unaries.Not = refl
-same_unary-refl unaries.Neg = refl
+same_unary-refl _ = refl
 
 pub same_wide-is : (a b : WideOp) → same_wide a b ≡ true → a ≡ b
 same_wide-is wides.Mul wides.Mul e = refl
@@ -84,9 +66,7 @@ same_wide-is _ _ e = absurd (cc)
 
 pub same_wide-refl : (a : WideOp) → same_wide a a ≡ true
 same_wide-refl wides.Mul = refl
-same_wide-refl wides.Imul = refl
-same_wide-refl wides.Div = refl
-same_wide-refl wides.Idiv = refl
+same_wide-refl _ = refl
 
 pub same_shift-is : (a b : ShiftOp) → same_shift a b ≡ true → a ≡ b
 same_shift-is shifts.Rol shifts.Rol e = refl
@@ -98,10 +78,7 @@ same_shift-is _ _ e = absurd (cc)
 
 pub same_shift-refl : (a : ShiftOp) → same_shift a a ≡ true
 same_shift-refl shifts.Rol = refl
-same_shift-refl shifts.Ror = refl
-same_shift-refl shifts.Shl = refl
-same_shift-refl shifts.Shr = refl
-same_shift-refl shifts.Sar = refl
+same_shift-refl _ = refl
 
 pub same_bit-is : (a b : BitOp) → same_bit a b ≡ true → a ≡ b
 same_bit-is bits.Test bits.Test e = refl
@@ -112,9 +89,7 @@ same_bit-is _ _ e = absurd (cc)
 
 pub same_bit-refl : (a : BitOp) → same_bit a a ≡ true
 same_bit-refl bits.Test = refl
-same_bit-refl bits.Set = refl
-same_bit-refl bits.Reset = refl
-same_bit-refl bits.Complement = refl
+same_bit-refl _ = refl
 
 pub same_scan-is : (a b : ScanOp) → same_scan a b ≡ true → a ≡ b
 same_scan-is scans.Bsf scans.Bsf e = refl
@@ -126,10 +101,7 @@ same_scan-is _ _ e = absurd (cc)
 
 pub same_scan-refl : (a : ScanOp) → same_scan a a ≡ true
 same_scan-refl scans.Bsf = refl
-same_scan-refl scans.Bsr = refl
-same_scan-refl scans.Tzcnt = refl
-same_scan-refl scans.Lzcnt = refl
-same_scan-refl scans.Popcnt = refl
+same_scan-refl _ = refl
 
 pub same_change-is : (a b : FlagOp) → same_change a b ≡ true → a ≡ b
 same_change-is changes.Clc changes.Clc e = refl
@@ -141,7 +113,4 @@ same_change-is _ _ e = absurd (cc)
 
 pub same_change-refl : (a : FlagOp) → same_change a a ≡ true
 same_change-refl changes.Clc = refl
-same_change-refl changes.Stc = refl
-same_change-refl changes.Cmc = refl
-same_change-refl changes.Cld = refl
-same_change-refl changes.Std = refl
+same_change-refl _ = refl

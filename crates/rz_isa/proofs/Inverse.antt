@@ -1,27 +1,20 @@
-use Rattle.std.proofs.Common.{ℕ, ◌≡◌, ◌==◌, ap, ◌∙◌, subst, arith, Bool, true, not, ◌&&◌, ◌||◌, Option, Some, None}
+use Rattle.std.proofs.Common.{ℕ, ◌≡◌, ◌==◌, ap, ◌∙◌, subst, arith, Bool, true, false, not, ◌&&◌, ◌||◌, Option, Some, None}
 use Rattle.std.specs.Prelude.{is_some, if◌then◌else◌}
 use Rattle.std.specs.Option.{option_and_then}
 use Rattle.std.proofs.lemmas.Bool.Decides.{nat_tests}
 use Rattle.std.proofs.lemmas.Option.{option_and_then_some}
-use Rattle.rz_num.specs.declared.width.Width.{Width}
-use Rattle.rz_isa.specs.declared.rows.OpMap.{OpMap}
-use Rattle.rz_isa.specs.declared.rows.RmRule.{RmRule}
-use Rattle.rz_isa.specs.declared.rows.ImmKind.{ImmKind}
+use Rattle.rz_isa.proofs.Types.{Width, OpMap, RmRule, ImmKind, Row, Op, Insn, Fields}
 use Rattle.rz_isa.specs.declared.rows.ImmKind.TheVariants as imms
-use Rattle.rz_isa.specs.declared.rows.Row.{Row}
 use Rattle.rz_isa.specs.declared.rows.Letter.TheVariants as letters
-use Rattle.rz_isa.specs.declared.rows.Op.{Op}
 use Rattle.rz_isa.specs.declared.rows.Op.TheVariants as ops
-use Rattle.rz_isa.specs.declared.instruction.Insn.{Insn}
-use Rattle.rz_isa.specs.declared.spelled.Fields.{Fields}
 use Rattle.rz_isa.specs.Spelling.{b_demand}
 use Rattle.rz_isa.specs.Fields.{build_op}
 use Rattle.rz_isa.specs.Having.{has_imm, in_opcode, can_have}
 use Rattle.rz_isa.specs.Finding.{least, found_in, if_can, found}
-use Rattle.rz_isa.specs.Regular.{operands_apart, imm_suits, width_suits, stands_alone, is_exchange, is_block, digit_small, rule_small, is_regular}
+use Rattle.rz_isa.specs.Regular.{operands_apart, imm_suits, width_suits, stands_alone, is_exchange, names_number, is_byte_class, is_block, digit_small, rule_small, is_regular}
 use Rattle.rz_isa.proofs.Built.{imm_small, built}
 use Rattle.rz_isa.proofs.Again.{had_of, can_of, again}
-use Rattle.rz_isa.proofs.Lesser.{below_had}
+use Rattle.rz_isa.proofs.Lesser.{numbered, found_had}
 use Rattle.rz_isa.proofs.Tests.{through}
 
 -- ---- what is asked of a row, one by one
@@ -36,8 +29,9 @@ pub record IsRegular (r : Row) : Type 0 where
   pub rule : rule_small r.rm r.digit ≡ true
   pub demand : not (is_some (b_demand r.op r.map 0x90) && is_some r.rm) ≡ true
   pub exchange : (not (is_exchange r.op) || r.span == 8) ≡ true
+  pub number : not (names_number r.op && is_byte_class r.size) ≡ true
 
-record Nine (a b c d e f g h i : Bool) : Type 0 where
+record Ten (a b c d e f g h i j : Bool) : Type 0 where
   one : a ≡ true
   two : b ≡ true
   three : c ≡ true
@@ -47,15 +41,16 @@ record Nine (a b c d e f g h i : Bool) : Type 0 where
   seven : g ≡ true
   eight : h ≡ true
   nine : i ≡ true
+  ten : j ≡ true
 
-nine : (a b c d e f g h i : Bool) → (a && b && c && d && e && f && g && h && i) ≡ true → Nine a b c d e f g h i
-nine a b c d e f g h i x = record { one = grind arith; two = grind arith; three = grind arith; four = grind arith; five = grind arith; six = grind arith; seven = grind arith; eight = grind arith; nine = grind arith }
+ten : (a b c d e f g h i j : Bool) → (a && b && c && d && e && f && g && h && i && j) ≡ true → Ten a b c d e f g h i j
+ten a b c d e f g h i j x = record { one = grind arith; two = grind arith; three = grind arith; four = grind arith; five = grind arith; six = grind arith; seven = grind arith; eight = grind arith; nine = grind arith; ten = grind arith }
 
 pub regular_of : (r : Row) → is_regular r ≡ true → IsRegular r
 regular_of r h =
-    let n = nine (operands_apart r.op) (imm_suits r.op r.imm) (width_suits r.op r.size) (not (stands_alone r.imm && is_some r.rm)) (is_block r) (digit_small r.digit) (rule_small r.rm r.digit)
-    (not (is_some (b_demand r.op r.map 0x90) && is_some r.rm)) (not (is_exchange r.op) || r.span == 8) h in
-    record { operands = n.one; imm = n.two; width = n.three; alone = n.four; block = n.five; digit = n.six; rule = n.seven; demand = n.eight; exchange = n.nine }
+    let n = ten (operands_apart r.op) (imm_suits r.op r.imm) (width_suits r.op r.size) (not (stands_alone r.imm && is_some r.rm)) (is_block r) (digit_small r.digit) (rule_small r.rm r.digit)
+    (not (is_some (b_demand r.op r.map 0x90) && is_some r.rm)) (not (is_exchange r.op) || r.span == 8) (not (names_number r.op && is_byte_class r.size)) h in
+    record { operands = n.one; imm = n.two; width = n.three; alone = n.four; block = n.five; digit = n.six; rule = n.seven; demand = n.eight; exchange = n.nine; number = n.ten }
 
 -- ---- immediates of counts, bit indexes and Ret
 
@@ -79,6 +74,9 @@ exchange_place : (op : Op) (m : OpMap) (r : Option RmRule) (span : ℕ) → not 
 exchange_place (ops.Xchg letters.O letters.A) m None span d x e = x
 exchange_place (ops.Xchg letters.O letters.A) m (Some r) span d x e = absurd (cc)
 exchange_place _ m r span d x e = absurd (cc)
+
+narrow : (a b : Bool) → a ≡ true → not (a && b) ≡ true → b ≡ false
+narrow a b e h = grind arith
 
 -- ---- what is found builds the instruction, and what builds it is found
 
@@ -106,8 +104,9 @@ builds_found row f reg had =
       rep = h.rep;
       small = imm_small_of row.op row.imm f.w f.imm r.imm h.imm;
       single = r.width;
+      number = λ names. numbered row f h (narrow (names_number row.op) (is_byte_class row.size) names r.number);
       exchange = exchange_place row.op row.map row.rm row.span r.demand r.exchange;
       b = h.b;
     }) in
-    let can = can_of row a.g (below_had row a.g f h a.below a.b) in
+    let can = can_of row a.g (found_had row a.g f h a.below a.b) in
     (a.g, ap (option_and_then (if_can row)) a.found ∙ ap (λ k. if k then Some a.g else None) can)

@@ -1,3 +1,4 @@
+pub mod Types
 pub mod Tests
 pub mod Front
 pub mod Exclusion
@@ -15,3 +16,4 @@ pub mod Parts
 pub mod Whole
 pub mod Choice
 pub mod Served
+pub mod Targeted

@@ -1,32 +1,23 @@
-use Rattle.std.proofs.Common.{ℕ, ◌≡◌, ◌+◌, ◌*◌, ◌/◌, ◌%◌, ◌^◌, ◌<◌, ◌≤◌, ◌==◌, refl, ap, sym, ◌∙◌, subst, arith, List, [], ◌∷◌, length, Bool, true, false, not, ◌&&◌, ◌||◌, ◌⊎◌, inl, inr, Option, Some, None}
+use Rattle.std.proofs.Common.{ℕ, ◌≡◌, ◌+◌, ◌*◌, ◌/◌, ◌%◌, ◌^◌, ◌<◌, ◌≤◌, ◌==◌, refl, ap, sym, ◌∙◌, subst, arith, List, [], ◌∷◌, Bool, true, false, not, ◌&&◌, ◌||◌, ◌⊎◌, inl, inr, Option, Some, None}
 use Rattle.std.specs.Prelude.{nat_lt, nat_le, if◌then◌else◌}
 use Rattle.std.proofs.lemmas.Bool.{cases_Bool}
 use Rattle.std.proofs.lemmas.Bool.Decides.{nat_tests}
-use Rattle.rz_num.specs.declared.width.Width.{Width}
-use Rattle.rz_num.specs.declared.width.Width.TheVariants.{W8, W16, W32, W64}
-use Rattle.rz_isa.specs.declared.rows.F3Rule.{F3Rule}
+use Rattle.rz_isa.proofs.Types.{Width, W8, W16, W32, W64, F3Rule, Size, RmRule, Row, Reg, Place, Fields}
 use Rattle.rz_isa.specs.declared.rows.F3Rule.TheVariants as f3s
-use Rattle.rz_isa.specs.declared.rows.Size.{Size}
 use Rattle.rz_isa.specs.declared.rows.Size.TheVariants as sizes
-use Rattle.rz_isa.specs.declared.rows.RmRule.{RmRule}
 use Rattle.rz_isa.specs.declared.rows.RmRule.TheVariants as rules
-use Rattle.rz_isa.specs.declared.rows.Row.{Row}
-use Rattle.rz_isa.specs.declared.instruction.Reg.{Reg}
 use Rattle.rz_isa.specs.declared.instruction.Reg.TheVariants as regs
-use Rattle.rz_isa.specs.declared.instruction.Place.{Place}
 use Rattle.rz_isa.specs.declared.instruction.Place.TheVariants as places
-use Rattle.rz_isa.specs.declared.spelled.Fields.{Fields}
 use Rattle.rz_isa.specs.Number.{are_bytes}
-use Rattle.rz_isa.specs.Spelling.{times, most_66, takes_66, prefixes_fit, f3_demand, is_rex, rex_fits, bit_w, bit_r, bit_x, bit_b, is_met, w_demand, rm_fits, rule_fits, rm_len, second, width_of}
+use Rattle.rz_isa.specs.Spelling.{times, most_66, takes_66, prefixes_fit, f3_demand, is_rex, rex_fits, bit_w, bit_r, bit_x, bit_b, is_met, w_demand, rm_fits, rule_fits, width_of}
 use Rattle.rz_isa.specs.Fields.{reg_of, place_of, rm_place, rm_width, reg_field, reg_number, repeat_in, rep_of}
 use Rattle.rz_isa.specs.Having.{is_wide, is_half, has_width, code_of, is_register, is_first, is_high, is_low_byte, in_reg_field, in_opcode, has_reg, is_number, is_index, is_disp, names_register, names_memory, is_first_place, has_place, is_repeat, has_rep, number_in, w_needed, r_needed, x_needed, place_b, b_needed, rex_needed, low_byte_place, high_place, needs_rex}
 use Rattle.rz_isa.specs.Canonical.{repeat_prefix, prefixes_for, rex_for, place_bytes, reg_bits, rm_bytes, place_reaches}
 use Rattle.rz_isa.specs.Regular.{digit_small, rule_small}
 use Rattle.rz_isa.proofs.Built.{first_is}
 use Rattle.rz_isa.proofs.Again.{Had}
-use Rattle.rz_isa.proofs.Complete.{if_true, if_false, if_both}
 use Rattle.rz_isa.proofs.Sound.{is_reg_place, PlaceRead, read_register, read_absolute, read_memory}
-use Rattle.rz_isa.proofs.Tests.{and_both}
+use Rattle.rz_isa.proofs.Tests.{and_both, if_true, if_false, if_both, and_three, or_left, or_right, all_three, equal_test, never}
 
 -- The canonical parts fit their row, and they are read as the fields.
 
@@ -111,9 +102,6 @@ index_small : (o : Option ℕ) (s : ℕ) → is_index o s ≡ true → number_in
 index_small None s h = omega arith
 index_small (Some n) s h = (let lt : n < 16 = grind (arith, nat_tests) in omega arith)
 
-mem_parts : (a b c : Bool) → (a && b && c) ≡ true → (a ≡ true) × (b ≡ true) × (c ≡ true)
-mem_parts a b c h = (grind arith, grind arith, grind arith)
-
 -- the bits of a place that some rule takes
 pub record PlaceBits (p : Place) : Type 0 where
   pub x : x_needed p ≤ 1
@@ -127,7 +115,7 @@ register_bits w (places.At a) h = absurd (cc)
 memory_bits : (p : Place) → names_memory p ≡ true → PlaceBits p
 memory_bits (places.Reg r) h = absurd (cc)
 memory_bits (places.Mem m) h =
-    let t = mem_parts (is_number m.base) (is_index m.index m.scale) (is_disp m.disp) h in
+    let t = and_three (is_number m.base) (is_index m.index m.scale) (is_disp m.disp) h in
     record { x = index_small m.index m.scale t.1; b = number_small m.base t.0 }
 memory_bits (places.At a) h = record { x = omega arith; b = omega arith }
 
@@ -203,12 +191,7 @@ bits row f h =
 
 pub w_is : (c : Size) (w : Width) → has_width c w ≡ true → is_met (w_demand c) (w_needed c w) ≡ true
 w_is sizes.WQ w h = refl
-w_is sizes.D w h = refl
-w_is sizes.B w h = refl
-w_is sizes.V w h = refl
-w_is sizes.Y w h = refl
-w_is sizes.Q w h = refl
-w_is sizes.N w h = refl
+w_is _ w h = refl
 
 width_again : (c : Size) (w : Width) → has_width c w ≡ true → width_of c (w_needed c w) (if is_half w then 1 else 0) ≡ w
 width_again sizes.B W8 h = refl
@@ -253,15 +236,9 @@ reg_suits rex W32 (regs.High n) h s = absurd (cc)
 reg_suits rex W64 (regs.High n) h s = absurd (cc)
 
 suits_by : (needs low high : Bool) (v : ℕ) (w : Width) (r : Reg) → is_low_byte w r ≡ low → is_high r ≡ high → (low ≡ true → needs ≡ true) → (high ≡ true → needs ≡ false) → suits (if needs then Some v else None) w r ≡ true
-suits_by true low true v w r el eh fl fh = absurd (never (fh refl))
-  where
-    never : true ≡ false → ⊥
-    never e = cc
+suits_by true low true v w r el eh fl fh = absurd (never true refl (fh refl))
 suits_by true low false v w r el eh fl fh = ap not eh
-suits_by false true high v w r el eh fl fh = absurd (never (fl refl))
-  where
-    never : false ≡ true → ⊥
-    never e = cc
+suits_by false true high v w r el eh fl fh = absurd (never false (fl refl) refl)
 suits_by false false high v w r el eh fl fh = ap not el
 
 or_middle : (a b c : Bool) → b ≡ true → (a || b || c) ≡ true
@@ -298,10 +275,7 @@ first_place_is (places.At a) h = absurd (cc)
 
 first_number : (w : Width) (rex : Option ℕ) → reg_of w rex 0 ≡ regs.R 0
 first_number W8 None = refl
-first_number W8 (Some b) = refl
-first_number W16 rex = refl
-first_number W32 rex = refl
-first_number W64 rex = refl
+first_number _ rex = refl
 
 no_register : (w : Width) (rex : Option ℕ) (r : Reg) → is_first r ≡ true → reg_of w rex 0 ≡ r
 no_register w rex r h = first_number w rex ∙ first_is r h
@@ -313,37 +287,13 @@ read_place v rex next reg (places.Reg r) lr ln h eb ex hs hr = read_register v r
     or_false : (a : Bool) → (a || false) ≡ true → a ≡ true
     or_false a h = grind arith
 read_place v rex next reg (places.Mem m) lr ln h eb ex hs hr =
-    let t = mem_parts (is_number m.base) (is_index m.index m.scale) (is_disp m.disp) h in
+    let t = and_three (is_number m.base) (is_index m.index m.scale) (is_disp m.disp) h in
     read_memory v rex next reg m.base m.index m.scale m.disp lr t.0 t.1 t.2 eb ex
 read_place v rex next reg (places.At a) lr ln h eb ex hs hr = (let la : a < 2 ^ 64 = grind (arith, nat_tests) in read_absolute v rex next reg a lr ln la hr)
 
--- the tests of a place that was spelled
-fits_by : (rule : RmRule) (digit : Option ℕ) (v : Width) (rex : Option ℕ) (next reg : ℕ) (p : Place) (bs : List ℕ) → PlaceRead v rex next reg p bs → is_met digit reg ≡ true
-    → ((m : ℕ) → (m / 64 == 3) ≡ is_reg_place p → rule_fits rule m ≡ true) → rm_fits (Some rule) digit bs ≡ true
-fits_by rule digit v rex next reg p bs h d f = subst (λ k. rm_fits (Some rule) digit k ≡ true) (sym h.same)
-    (three (rule_fits rule h.m) (is_met digit (h.m / 8 % 8)) (1 + length h.rest == rm_len h.m (second (h.m ∷ h.rest))) (f h.m h.register) (subst (λ k. is_met digit k ≡ true) (sym h.field) d) (same _ _ h.len))
-  where
-    three : (a b c : Bool) → a ≡ true → b ≡ true → c ≡ true → (a && b && c) ≡ true
-    three a b c ea eb ec = grind arith
-
-    same : (a b : ℕ) → a ≡ b → (a == b) ≡ true
-    same a b e = grind (arith, nat_tests)
-
-place_by : (v : Width) (rex : Option ℕ) (next reg : ℕ) (p : Place) (bs : List ℕ) → PlaceRead v rex next reg p bs → place_of v rex next bs ≡ p
-place_by v rex next reg p bs h = ap (place_of v rex next) h.same ∙ h.place
-
-bytes_by : (v : Width) (rex : Option ℕ) (next reg : ℕ) (p : Place) (bs : List ℕ) → PlaceRead v rex next reg p bs → are_bytes bs ≡ true
-bytes_by v rex next reg p bs h = ap are_bytes h.same ∙ h.bytes
-
-field_by : (v : Width) (rex : Option ℕ) (next reg : ℕ) (p : Place) (bs : List ℕ) → PlaceRead v rex next reg p bs → reg_field bs ≡ reg
-field_by v rex next reg p bs h = ap reg_field h.same ∙ h.field
-
 digit_met : (digit : Option ℕ) (code : ℕ) → is_met digit (reg_bits digit code) ≡ true
 digit_met None code = refl
-digit_met (Some d) code = same d
-  where
-    same : (d : ℕ) → (d == d) ≡ true
-    same d = grind (arith, nat_tests)
+digit_met (Some d) code = equal_test d d refl
 
 digit_low : (digit : Option ℕ) (code : ℕ) → digit_small digit ≡ true → reg_bits digit code < 8
 digit_low None code h = omega arith
@@ -382,24 +332,28 @@ is_reg v (places.Reg r) h = refl
 is_reg v (places.Mem m) h = absurd (cc)
 is_reg v (places.At a) h = absurd (cc)
 
-or_one : (a b : Bool) → a ≡ true → (a || b) ≡ true
-or_one a b e = grind arith
+-- what is spelled of an operand, by a rule that takes it
+record OperandRead (rule : RmRule) (digit : Option ℕ) (v : Width) (rex : Option ℕ) (next code : ℕ) (p : Place) (bs : List ℕ) : Type 0 where
+  fits : rm_fits (Some rule) digit bs ≡ true
+  place : place_of v rex next bs ≡ p
+  bytes : are_bytes bs ≡ true
+  field : reg_field bs ≡ reg_bits digit code
 
-or_other : (a b : Bool) → b ≡ true → (a || b) ≡ true
-or_other a b e = grind arith
-
--- a rule that takes an operand
-read_rule : (rule : RmRule) (digit : Option ℕ) (v : Width) (rex : Option ℕ) (next : ℕ) (p : Place) (r : Reg) → next < 2 ^ 64 → digit_small digit ≡ true → (names_register v p || names_memory p) ≡ true
-    → bit_b rex ≡ place_b p → bit_x rex ≡ x_needed p → ((q : Reg) → p ≡ places.Reg q → suits rex v q ≡ true) → place_reaches next p ≡ true
-    → PlaceRead v rex next (reg_bits digit (code_of r)) p (place_bytes (reg_bits digit (code_of r)) next p)
-read_rule rule digit v rex next p r ln ld h eb ex hs hr = read_place v rex next (reg_bits digit (code_of r)) p (digit_low digit (code_of r) ld) ln h eb ex hs hr
+operand_read : (rule : RmRule) (digit : Option ℕ) (span base : ℕ) (v w : Width) (rex : Option ℕ) (next : ℕ) (p : Place) (r : Reg) (o c : ℕ) → RmGiven (Some rule) digit span base v w rex next p r o c → (names_register v p || names_memory p) ≡ true
+    → ((m : ℕ) → (m / 64 == 3) ≡ is_reg_place p → rule_fits rule m ≡ true) → OperandRead rule digit v rex next (code_of r) p (place_bytes (reg_bits digit (code_of r)) next p)
+operand_read rule digit span base v w rex next p r o c g named fit =
+    let h = read_place v rex next (reg_bits digit (code_of r)) p (digit_low digit (code_of r) g.digit_low) g.next_low named g.b g.x g.place_suits g.near in
+    let d = subst (λ k. is_met digit k ≡ true) (sym h.field) (digit_met digit (code_of r)) in
+    record {
+      fits = subst (λ k. rm_fits (Some rule) digit k ≡ true) (sym h.same) (all_three _ _ _ (fit h.m h.register) d (equal_test _ _ h.len));
+      place = ap (place_of v rex next) h.same ∙ h.place;
+      bytes = ap are_bytes h.same ∙ h.bytes;
+      field = ap reg_field h.same ∙ h.field;
+    }
 
 -- a fixed byte that names a register stands alone
 fixed_parts : (k : ℕ) (digit : Option ℕ) → rule_small (Some (rules.Fixed k)) digit ≡ true → (rm_fits (Some (rules.Fixed k)) digit (k ∷ []) ≡ true) × (are_bytes (k ∷ []) ≡ true)
-fixed_parts k None h = (let three : (k / 64 == 3) ≡ true = grind arith in (and_both _ _ (and_both _ _ (same k) refl) (ap (λ n. 1 == n) (if_true (k / 64 == 3) 1 _ three)), and_both _ _ (grind arith) refl))
-  where
-    same : (k : ℕ) → (k == k) ≡ true
-    same k = grind (arith, nat_tests)
+fixed_parts k None h = (let three : (k / 64 == 3) ≡ true = grind arith in (and_both _ _ (and_both _ _ (equal_test k k refl) refl) (ap (λ n. 1 == n) (if_true (k / 64 == 3) 1 _ three)), and_both _ _ (grind arith) refl))
 fixed_parts k (Some d) h = absurd (false_and (nat_lt k 256 && k / 64 == 3) h)
   where
     false_and : (a : Bool) → (a && false) ≡ true → ⊥
@@ -426,50 +380,20 @@ rm_read (Some (rules.Fixed k)) digit span base v w rex next p r o c g = record {
   reg = λ ps is. no_register w rex r g.reg;
 }
 rm_read (Some rules.Any) None span base v w rex next p r o c g =
-    let q = read_rule rules.Any None v rex next p r g.next_low g.digit_low (g.place) g.b g.x g.place_suits g.near in
-    record {
-      fits = fits_by rules.Any None v rex next (reg_bits None (code_of r)) p _ q (digit_met None (code_of r)) (λ m e. refl);
-      place = place_by v rex next (reg_bits None (code_of r)) p _ q;
-      bytes = bytes_by v rex next (reg_bits None (code_of r)) p _ q;
-      reg = λ ps is. field_reg w rex r (reg_field (place_bytes (reg_bits None (code_of r)) next p)) (field_by v rex next (reg_bits None (code_of r)) p _ q) g.r_bit g.reg g.reg_suits;
-    }
+    let q = operand_read rules.Any None span base v w rex next p r o c g g.place (λ m e. refl) in
+    record { fits = q.fits; place = q.place; bytes = q.bytes; reg = λ ps is. field_reg w rex r _ q.field g.r_bit g.reg g.reg_suits }
 rm_read (Some rules.Any) (Some d) span base v w rex next p r o c g =
-    let q = read_rule rules.Any (Some d) v rex next p r g.next_low g.digit_low (g.place) g.b g.x g.place_suits g.near in
-    record {
-      fits = fits_by rules.Any (Some d) v rex next (reg_bits (Some d) (code_of r)) p _ q (digit_met (Some d) (code_of r)) (λ m e. refl);
-      place = place_by v rex next (reg_bits (Some d) (code_of r)) p _ q;
-      bytes = bytes_by v rex next (reg_bits (Some d) (code_of r)) p _ q;
-      reg = λ ps is. no_register w rex r g.reg;
-    }
+    let q = operand_read rules.Any (Some d) span base v w rex next p r o c g g.place (λ m e. refl) in
+    record { fits = q.fits; place = q.place; bytes = q.bytes; reg = λ ps is. no_register w rex r g.reg }
 rm_read (Some rules.MemoryOnly) None span base v w rex next p r o c g =
-    let q = read_rule rules.MemoryOnly None v rex next p r g.next_low g.digit_low (or_other _ _ g.place) g.b g.x g.place_suits g.near in
-    record {
-      fits = fits_by rules.MemoryOnly None v rex next (reg_bits None (code_of r)) p _ q (digit_met None (code_of r)) (λ m e. ap not (e ∙ not_reg p g.place));
-      place = place_by v rex next (reg_bits None (code_of r)) p _ q;
-      bytes = bytes_by v rex next (reg_bits None (code_of r)) p _ q;
-      reg = λ ps is. field_reg w rex r (reg_field (place_bytes (reg_bits None (code_of r)) next p)) (field_by v rex next (reg_bits None (code_of r)) p _ q) g.r_bit g.reg g.reg_suits;
-    }
+    let q = operand_read rules.MemoryOnly None span base v w rex next p r o c g (or_right _ _ g.place) (λ m e. ap not (e ∙ not_reg p g.place)) in
+    record { fits = q.fits; place = q.place; bytes = q.bytes; reg = λ ps is. field_reg w rex r _ q.field g.r_bit g.reg g.reg_suits }
 rm_read (Some rules.MemoryOnly) (Some d) span base v w rex next p r o c g =
-    let q = read_rule rules.MemoryOnly (Some d) v rex next p r g.next_low g.digit_low (or_other _ _ g.place) g.b g.x g.place_suits g.near in
-    record {
-      fits = fits_by rules.MemoryOnly (Some d) v rex next (reg_bits (Some d) (code_of r)) p _ q (digit_met (Some d) (code_of r)) (λ m e. ap not (e ∙ not_reg p g.place));
-      place = place_by v rex next (reg_bits (Some d) (code_of r)) p _ q;
-      bytes = bytes_by v rex next (reg_bits (Some d) (code_of r)) p _ q;
-      reg = λ ps is. no_register w rex r g.reg;
-    }
+    let q = operand_read rules.MemoryOnly (Some d) span base v w rex next p r o c g (or_right _ _ g.place) (λ m e. ap not (e ∙ not_reg p g.place)) in
+    record { fits = q.fits; place = q.place; bytes = q.bytes; reg = λ ps is. no_register w rex r g.reg }
 rm_read (Some rules.RegisterOnly) None span base v w rex next p r o c g =
-    let q = read_rule rules.RegisterOnly None v rex next p r g.next_low g.digit_low (or_one _ _ g.place) g.b g.x g.place_suits g.near in
-    record {
-      fits = fits_by rules.RegisterOnly None v rex next (reg_bits None (code_of r)) p _ q (digit_met None (code_of r)) (λ m e. e ∙ is_reg v p g.place);
-      place = place_by v rex next (reg_bits None (code_of r)) p _ q;
-      bytes = bytes_by v rex next (reg_bits None (code_of r)) p _ q;
-      reg = λ ps is. field_reg w rex r (reg_field (place_bytes (reg_bits None (code_of r)) next p)) (field_by v rex next (reg_bits None (code_of r)) p _ q) g.r_bit g.reg g.reg_suits;
-    }
+    let q = operand_read rules.RegisterOnly None span base v w rex next p r o c g (or_left _ _ g.place) (λ m e. e ∙ is_reg v p g.place) in
+    record { fits = q.fits; place = q.place; bytes = q.bytes; reg = λ ps is. field_reg w rex r _ q.field g.r_bit g.reg g.reg_suits }
 rm_read (Some rules.RegisterOnly) (Some d) span base v w rex next p r o c g =
-    let q = read_rule rules.RegisterOnly (Some d) v rex next p r g.next_low g.digit_low (or_one _ _ g.place) g.b g.x g.place_suits g.near in
-    record {
-      fits = fits_by rules.RegisterOnly (Some d) v rex next (reg_bits (Some d) (code_of r)) p _ q (digit_met (Some d) (code_of r)) (λ m e. e ∙ is_reg v p g.place);
-      place = place_by v rex next (reg_bits (Some d) (code_of r)) p _ q;
-      bytes = bytes_by v rex next (reg_bits (Some d) (code_of r)) p _ q;
-      reg = λ ps is. no_register w rex r g.reg;
-    }
+    let q = operand_read rules.RegisterOnly (Some d) span base v w rex next p r o c g (or_left _ _ g.place) (λ m e. e ∙ is_reg v p g.place) in
+    record { fits = q.fits; place = q.place; bytes = q.bytes; reg = λ ps is. no_register w rex r g.reg }

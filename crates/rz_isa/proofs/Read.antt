@@ -5,7 +5,7 @@ use Rattle.rz_isa.specs.Number.{are_bytes, number, numbers, signed, extended, di
 use Rattle.rz_isa.specs.Having.{is_disp, is_extended}
 use Rattle.rz_isa.specs.Canonical.{little, low_32, offset, is_zero, is_small, mode_of, disp_bytes}
 use Rattle.rz_isa.proofs.Numbers.{minus_is}
-use Rattle.rz_isa.proofs.Complete.{if_both}
+use Rattle.rz_isa.proofs.Tests.{if_both}
 
 -- Numbers that were written are read again.
 

@@ -1,20 +1,13 @@
-use Rattle.std.proofs.Common.{ℕ, ◌≡◌, ◌+◌, ◌/◌, ◌%◌, ◌^◌, ◌<◌, ◌≤◌, ◌==◌, refl, ap, sym, ◌∙◌, subst, arith, List, [], ◌∷◌, ◌++◌, length, Bool, true, false, not, ◌&&◌, inl, inr, Option, Some, None, length-append}
-use Rattle.std.specs.Prelude.{nat_lt, nat_le, is_some, if◌then◌else◌}
+use Rattle.std.proofs.Common.{ℕ, ◌≡◌, ◌+◌, ◌/◌, ◌%◌, ◌^◌, ◌<◌, ◌≤◌, ◌==◌, refl, ap, sym, ◌∙◌, subst, arith, List, [], ◌∷◌, ◌++◌, length, Bool, true, false, not, ◌&&◌, ◌||◌, inl, inr, Option, Some, None, length-append}
+use Rattle.std.specs.Prelude.{nat_lt, nat_le, is_some, if◌then◌else◌, is_none}
 use Rattle.std.proofs.lemmas.Bool.{cases_Bool}
 use Rattle.std.proofs.lemmas.Bool.Decides.{nat_tests}
 use Rattle.std.proofs.lemmas.Grind.{common_steps}
-use Rattle.rz_num.specs.declared.width.Width.{Width}
-use Rattle.rz_num.specs.declared.width.Width.TheVariants.{W8, W16, W32, W64}
-use Rattle.rz_isa.specs.declared.rows.OpMap.{OpMap}
+use Rattle.rz_isa.proofs.Types.{Width, W8, OpMap, RmRule, ImmKind, Row, Place, Fields}
 use Rattle.rz_isa.specs.declared.rows.OpMap.TheVariants as maps
-use Rattle.rz_isa.specs.declared.rows.RmRule.{RmRule}
 use Rattle.rz_isa.specs.declared.rows.RmRule.TheVariants as rules
-use Rattle.rz_isa.specs.declared.rows.ImmKind.{ImmKind}
 use Rattle.rz_isa.specs.declared.rows.ImmKind.TheVariants as imms
-use Rattle.rz_isa.specs.declared.rows.Row.{Row}
-use Rattle.rz_isa.specs.declared.instruction.Place.{Place}
 use Rattle.rz_isa.specs.declared.instruction.Place.TheVariants as places
-use Rattle.rz_isa.specs.declared.spelled.Fields.{Fields}
 use Rattle.rz_isa.specs.Number.{are_bytes}
 use Rattle.rz_isa.specs.Spelling.{Parts, bytes_of, rex_bytes, escape, is_met, b_demand, w_demand, opcode_fits, rm_fits, rm_len, disp_len, second, width_at, imm_len, rex_fits, Fits, SpelledBy}
 use Rattle.rz_isa.specs.Fields.{reg_of, rm_place, rm_width, reg_number, imm_of, rep_of, fields}
@@ -24,28 +17,19 @@ use Rattle.rz_isa.specs.Regular.{is_block, stands_alone, is_regular}
 use Rattle.rz_isa.specs.Spells.{CanHave}
 use Rattle.rz_isa.proofs.Again.{Had, had_of}
 use Rattle.rz_isa.proofs.Inverse.{IsRegular, regular_of}
-use Rattle.rz_isa.proofs.Complete.{if_true, if_false, if_both, eight_aligned, disp_short, fields_had}
+use Rattle.rz_isa.proofs.Complete.{eight_aligned, disp_short, fields_had}
 use Rattle.rz_isa.proofs.Read.{little_bytes, little_length}
 use Rattle.rz_isa.proofs.Sound.{imm_again}
 use Rattle.rz_isa.proofs.Parts.{repeat_both, repeat_prefix-is, prefixes_ok, repeat_again, rep_again, w_is, width_read, bits, reg_field_suits, place_suits, RmGiven, rm_read}
-use Rattle.rz_isa.proofs.Tests.{and_parts, and_both, below_test, within_test}
+use Rattle.rz_isa.proofs.Tests.{and_parts, and_both, below_test, within_test, if_true, if_false, if_both, equal_is, equal_test}
 
 -- The canonical parts of fields are spelled by their row and read as the fields.
 
 -- ---- the opcode
 
-eight_none : (r : Row) → is_block r ≡ true → (r.span == 8) ≡ true → in_opcode r.rm r.span ≡ true
-eight_none r b s = by r.rm refl
-  where
-    none_then : (x : Option RmRule) → x ≡ r.rm → is_block r ≡ true → (r.span == 8) ≡ true → in_opcode x r.span ≡ true
-    none_then None e b s = s
-    none_then (Some k) e b s = absurd (some_not k e b s)
-      where
-        some_not : (k : RmRule) → Some k ≡ r.rm → is_block r ≡ true → (r.span == 8) ≡ true → ⊥
-        some_not k e b s = grind (arith, nat_tests)
-
-    by : (x : Option RmRule) → x ≡ r.rm → in_opcode r.rm r.span ≡ true
-    by x e = none_then r.rm refl b s
+eight_none : (rm : Option RmRule) (o span : ℕ) → (nat_lt o 256 && (span == 1 || (span == 16 && o % 16 == 0) || (span == 8 && o % 8 == 0 && is_none rm))) ≡ true → (span == 8) ≡ true → in_opcode rm span ≡ true
+eight_none None o span b s = s
+eight_none (Some k) o span b s = absurd (grind (arith, nat_tests))
 
 not_in_opcode : (rm : Option RmRule) (span : ℕ) → (span == 8) ≡ false → in_opcode rm span ≡ false
 not_in_opcode None span e = e
@@ -67,9 +51,6 @@ cond_small span c h s = grind (arith, nat_tests)
 cond_zero : (span c : ℕ) → has_cond span c ≡ true → (span == 16) ≡ false → c ≡ 0
 cond_zero span c h s = grind (arith, nat_tests)
 
-is_number : (n k : ℕ) → (n == k) ≡ true → n ≡ k
-is_number n k e = grind (arith, nat_tests)
-
 within : (a s o : ℕ) → a ≤ o → o < a + s → (nat_le a o && nat_lt o (a + s)) ≡ true
 within a s o le lt = grind (arith, nat_tests)
 
@@ -81,8 +62,8 @@ pub record OpcodeRead (row : Row) (f : Fields) : Type 0 where
 pub opcode_read : (row : Row) (f : Fields) → IsRegular row → Had row f → OpcodeRead row f
 opcode_read row f reg h = elim (cases_Bool (row.span == 8)) [
   | inl y ↦
-      (let at = eight_none row reg.block y in
-      let s = is_number row.span 8 y in
+      (let at = eight_none row.rm row.opcode row.span reg.block y in
+      let s = equal_is row.span 8 y in
       let o : opcode_of row f ≡ row.opcode + code_of f.reg % 8 = ap (λ k. row.opcode + k) (if_true (in_opcode row.rm row.span) _ _ at) in
       let z = eight_aligned row reg.block y in
       let low = opcode_byte row reg.block in
@@ -98,7 +79,7 @@ opcode_read row f reg h = elim (cases_Bool (row.span == 8)) [
       let low = opcode_byte row reg.block in
       elim (cases_Bool (row.span == 16)) [
         | inl y ↦
-            (let s = is_number row.span 16 y in
+            (let s = equal_is row.span 16 y in
             let c = cond_small row.span f.cond h.cond y in
             let z = sixteen_aligned row reg.block y in
             record {
@@ -144,9 +125,6 @@ rm_given row f next reg h ln near =
       opcode = refl;
     }
 
-same_length : (a b : ℕ) → a ≡ b → (a == b) ≡ true
-same_length a b e = grind (arith, nat_tests)
-
 pub parts_read : (row : Row) (f : Fields) (next : ℕ) → is_regular row ≡ true → can_have row f ≡ true → next < 2 ^ 64 → reaches row f next ≡ true → PartsRead row f next
 parts_read row f next regular can ln near =
     let reg = regular_of row regular in
@@ -169,7 +147,7 @@ parts_read row f next regular can ln near =
         opcode = o.fits;
         b = subst (λ k. is_met (b_demand row.op row.map (opcode_of row f)) k ≡ true) (sym b.b) h.b;
         rm = m.fits;
-        imm = same_length (length p.imm) (imm_len row.imm (width_at row p)) (little_length (imm_len row.imm f.w) (imm_value row.imm next f.imm) ∙ ap (imm_len row.imm) (sym ew));
+        imm = equal_test (length p.imm) (imm_len row.imm (width_at row p)) (little_length (imm_len row.imm f.w) (imm_value row.imm next f.imm) ∙ ap (imm_len row.imm) (sym ew));
       };
       same = λ i. record { w = ew i; reg = ereg i; rm = erm i; cond = o.cond i; imm = eimm i; rep = erep i };
       rm = m.bytes;
@@ -214,33 +192,19 @@ rm_short rule digit [] h = omega arith
 rm_short rule digit (m ∷ rest) h = (let e : 1 + length rest ≡ rm_len m (second (m ∷ rest)) = grind (arith, nat_tests) in let s = rm_len_short m (second (m ∷ rest)) in omega arith)
 
 imm_full : (k : Option ImmKind) (w : Width) → imm_len k w ≤ 8
-imm_full None w = omega arith
-imm_full (Some imms.Ib) w = omega arith
-imm_full (Some imms.Ibs) w = omega arith
-imm_full (Some imms.Iw) w = omega arith
 imm_full (Some imms.Iz) W8 = omega arith
-imm_full (Some imms.Iz) W16 = omega arith
-imm_full (Some imms.Iz) W32 = omega arith
-imm_full (Some imms.Iz) W64 = omega arith
+imm_full (Some imms.Iz) _ = omega arith
 imm_full (Some imms.Iv) W8 = omega arith
-imm_full (Some imms.Iv) W16 = omega arith
-imm_full (Some imms.Iv) W32 = omega arith
-imm_full (Some imms.Iv) W64 = omega arith
-imm_full (Some imms.J8) w = omega arith
-imm_full (Some imms.J32) w = omega arith
+imm_full (Some imms.Iv) _ = omega arith
+imm_full _ w = omega arith
 
 imm_beside : (k : Option ImmKind) (w : Width) → stands_alone k ≡ false → imm_len k w ≤ 4
-imm_beside None w h = omega arith
-imm_beside (Some imms.Ib) w h = omega arith
-imm_beside (Some imms.Ibs) w h = omega arith
-imm_beside (Some imms.Iw) w h = omega arith
 imm_beside (Some imms.Iz) W8 h = omega arith
-imm_beside (Some imms.Iz) W16 h = omega arith
-imm_beside (Some imms.Iz) W32 h = omega arith
-imm_beside (Some imms.Iz) W64 h = omega arith
+imm_beside (Some imms.Iz) _ h = omega arith
 imm_beside (Some imms.Iv) w h = absurd (cc)
 imm_beside (Some imms.J8) w h = absurd (cc)
 imm_beside (Some imms.J32) w h = absurd (cc)
+imm_beside _ w h = omega arith
 
 beside : (a : Bool) → not (a && true) ≡ true → a ≡ false
 beside a h = grind arith
@@ -299,29 +263,17 @@ self_4 a lt = ap (is_extended (2 ^ 31) (2 ^ 64)) (offset_self a lt)
 self_1 : (a : ℕ) → a < 2 ^ 64 → is_extended (2 ^ 7) (2 ^ 64) (offset a a) ≡ true
 self_1 a lt = ap (is_extended (2 ^ 7) (2 ^ 64)) (offset_self a lt)
 
-not_true : (a : Bool) → a ≡ true → a ≡ false → ⊥
-not_true a t f = cc
-
 at_home : (k : Option ImmKind) (a n : ℕ) → a < 2 ^ 64 → stands_alone k ≡ false → Home (places.At a) k n
-at_home None a n lt h = record { next = a; low = lt; near = and_both _ _ (self_4 a lt) refl }
-at_home (Some imms.Ib) a n lt h = record { next = a; low = lt; near = and_both _ _ (self_4 a lt) refl }
-at_home (Some imms.Ibs) a n lt h = record { next = a; low = lt; near = and_both _ _ (self_4 a lt) refl }
-at_home (Some imms.Iw) a n lt h = record { next = a; low = lt; near = and_both _ _ (self_4 a lt) refl }
-at_home (Some imms.Iz) a n lt h = record { next = a; low = lt; near = and_both _ _ (self_4 a lt) refl }
 at_home (Some imms.Iv) a n lt h = absurd (cc)
 at_home (Some imms.J8) a n lt h = absurd (cc)
 at_home (Some imms.J32) a n lt h = absurd (cc)
+at_home _ a n lt h = record { next = a; low = lt; near = and_both _ _ (self_4 a lt) refl }
 
 -- a place that isn't named by its address is in reach from everywhere
 free_home : (p : Place) (k : Option ImmKind) (w : Width) (n : ℕ) → ((next : ℕ) → place_reaches next p ≡ true) → has_imm k w n ≡ true → Home p k n
 free_home p (Some imms.J8) w n free h = (let lt : n < 2 ^ 64 = grind (arith, nat_tests) in record { next = n; low = lt; near = and_both _ _ (free n) (self_1 n lt) })
 free_home p (Some imms.J32) w n free h = (let lt : n < 2 ^ 64 = grind (arith, nat_tests) in record { next = n; low = lt; near = and_both _ _ (free n) (self_4 n lt) })
-free_home p None w n free h = record { next = 0; low = omega arith; near = and_both _ _ (free 0) refl }
-free_home p (Some imms.Ib) w n free h = record { next = 0; low = omega arith; near = and_both _ _ (free 0) refl }
-free_home p (Some imms.Ibs) w n free h = record { next = 0; low = omega arith; near = and_both _ _ (free 0) refl }
-free_home p (Some imms.Iw) w n free h = record { next = 0; low = omega arith; near = and_both _ _ (free 0) refl }
-free_home p (Some imms.Iz) w n free h = record { next = 0; low = omega arith; near = and_both _ _ (free 0) refl }
-free_home p (Some imms.Iv) w n free h = record { next = 0; low = omega arith; near = and_both _ _ (free 0) refl }
+free_home p _ w n free h = record { next = 0; low = omega arith; near = and_both _ _ (free 0) refl }
 
 below_64 : (a : ℕ) → nat_lt a (2 ^ 64) ≡ true → a < 2 ^ 64
 below_64 a h = grind (arith, nat_tests)

@@ -1,4 +1,4 @@
-use Rattle.std.specs.Prelude.{ℕ, ◌≡◌, ◌+◌, ◌/◌, ◌%◌, ◌^◌, ◌<◌, ◌≤◌, ◌≢◌, nat_lt, ◌||◌, Bool, true, false, List, length, Option, Some, None, IsTrue, IsSomeAnd, slice_get}
+use Rattle.std.specs.Prelude.{ℕ, ◌≡◌, ◌+◌, ◌/◌, ◌%◌, ◌^◌, ◌<◌, ◌≤◌, ◌≢◌, nat_lt, ◌||◌, Bool, true, false, List, length, Option, Some, None, IsTrue, IsSomeAnd}
 use Rattle.std.specs.List.{list_any}
 use Rattle.rz_num.specs.declared.width.Width.{Width}
 use Rattle.rz_num.specs.declared.width.Width.TheVariants.{W8, W16, W32, W64}
@@ -18,12 +18,10 @@ use Rattle.rz_isa.specs.declared.instruction.Reg.TheVariants as regs
 use Rattle.rz_isa.specs.declared.instruction.Mem.{Mem}
 use Rattle.rz_isa.specs.declared.instruction.Place.{Place}
 use Rattle.rz_isa.specs.declared.instruction.Place.TheVariants as places
-use Rattle.rz_isa.specs.declared.instruction.Operand.{Operand}
 use Rattle.rz_isa.specs.declared.instruction.Operand.TheVariants as operands
 use Rattle.rz_isa.specs.declared.instruction.Count.TheVariants as counts
 use Rattle.rz_isa.specs.Having.{is_extended, is_memory, names_register, names_memory}
 use Rattle.rz_isa.specs.Canonical.{offset, place_bytes, place_reaches, canonical}
-use Rattle.rz_isa.specs.Table.{SpelledSomewhere}
 
 -- The instructions that fragments, stubs and the lookup routine are made of have canonical
 -- spellings for all their fields, and these have the lengths that are said.
@@ -97,10 +95,6 @@ pub record Emits (rows : List Row) : Type 0 where
   pub ud2 : (at : ℕ) → HasSpelling rows insns.Ud2 at forms.Near 2
   pub hlt : (at : ℕ) → HasSpelling rows insns.Hlt at forms.Near 1
   pub int3 : (at : ℕ) → HasSpelling rows insns.Int3 at forms.Near 1
-
--- what an indirect call or jump of the table names can be moved to a 64-bit register
-abbrev pub MovesOperands : List Row → Type 0
-MovesOperands rows = (n : ℕ) (row : Row) (x : Insn) (p : Place) → slice_get rows n ≡ Some row → SpelledSomewhere row x → indirect_operand x ≡ Some p → IsTrue (is_wide_operand p)
 
 -- ---- sums, comparisons, shifts, the flags word and the jump through memory: a table with
 -- transfers that are looked up has what the lookup routine is made of

@@ -9,7 +9,9 @@ pub mod Having
 pub mod Finding
 pub mod Canonical
 pub mod Regular
+pub mod Suited
 pub mod Emitted
+pub mod Targets
 pub mod Decoded
 pub mod DecodedLaws
 pub mod Class

@@ -93,15 +93,45 @@ is_single sizes.D = false
 is_single sizes.Y = false
 is_single _ = true
 
--- where the instruction has an immediate or a target and doesn't name its width, the class has one width
+-- an instruction that doesn't name its width has a class of one width; Nop names nothing at all
 abbrev pub width_suits : Op → Size → Bool
 width_suits (ops.Push s) c = is_single c
+width_suits (ops.Pop d) c = is_single c
+width_suits ops.Leave c = is_single c
+width_suits ops.PushFlags c = is_single c
+width_suits ops.PopFlags c = is_single c
+width_suits (ops.Set d) c = is_single c
 width_suits ops.Jcc c = is_single c
 width_suits ops.Jrcxz c = is_single c
 width_suits ops.Jmp c = is_single c
 width_suits ops.Call c = is_single c
+width_suits (ops.CallInd s) c = is_single c
+width_suits (ops.JmpInd s) c = is_single c
 width_suits ops.Ret c = is_single c
+width_suits (ops.Flag o) c = is_single c
+width_suits ops.Syscall c = is_single c
+width_suits ops.Ud2 c = is_single c
+width_suits ops.Hlt c = is_single c
+width_suits ops.Int3 c = is_single c
 width_suits _ c = true
+
+-- the operations that name a register by its number alone, which AH, CH, DH and BH haven't
+abbrev pub names_number : Op → Bool
+names_number (ops.Lea d s) = true
+names_number (ops.Extend o d s) = true
+names_number (ops.Imul2 d s) = true
+names_number (ops.Imul3 d s i) = true
+names_number (ops.DoubleShift o d s c) = true
+names_number (ops.Cmov d s) = true
+names_number (ops.Bswap d) = true
+names_number (ops.BitTest o d i) = true
+names_number (ops.Scan o d s) = true
+names_number _ = false
+
+abbrev pub is_byte_class : Size → Bool
+is_byte_class sizes.B = true
+is_byte_class sizes.N = true
+is_byte_class _ = false
 
 -- a displacement from the next address, or a whole immediate of any width
 abbrev pub stands_alone : Option ImmKind → Bool
@@ -130,4 +160,4 @@ rule_small _ digit = true
 abbrev pub is_regular : Row → Bool
 is_regular r =
     operands_apart r.op && imm_suits r.op r.imm && width_suits r.op r.size && not (stands_alone r.imm && is_some r.rm) && is_block r && digit_small r.digit && rule_small r.rm r.digit
-    && not (is_some (b_demand r.op r.map 0x90) && is_some r.rm) && (not (is_exchange r.op) || r.span == 8)
+    && not (is_some (b_demand r.op r.map 0x90) && is_some r.rm) && (not (is_exchange r.op) || r.span == 8) && not (names_number r.op && is_byte_class r.size)

@@ -1,4 +1,4 @@
-use Rattle.std.specs.Prelude.{ℕ, zero, suc, ◌≡◌, ◌+◌, ◌-◌, ◌≤◌, ◌<◌, ◌==◌, max, min, Bool, true, false, not, ◌&&◌, ◌||◌, List, [], ◌∷◌, ◌++◌, length, Option, Some, None, slice_get}
+use Rattle.std.specs.Prelude.{ℕ, zero, suc, ◌≡◌, ◌+◌, ◌-◌, ◌≤◌, ◌<◌, ◌==◌, max, min, Bool, true, false, not, ◌&&◌, ◌||◌, List, [], ◌∷◌, ◌++◌, length, Option, Some, None, IsSome, slice_get}
 use Rattle.std.specs.List.{list_all}
 use Rattle.rz_isa.specs.declared.rows.Row.{Row}
 use Rattle.rz_isa.specs.declared.rows.OpMap.{OpMap}
@@ -9,7 +9,7 @@ use Rattle.rz_isa.specs.declared.instruction.Insn.{Insn}
 use Rattle.rz_isa.specs.Spelling.{Parts, SpelledBy, is_prefix, is_rex, clash, f3_demand, w_demand, b_demand}
 use Rattle.rz_isa.specs.declared.rows.Form.{Form}
 use Rattle.rz_isa.specs.Spells.{RowSpells, Spells}
-use Rattle.rz_isa.specs.Canonical.{canonical}
+use Rattle.rz_isa.specs.Canonical.{chosen, canonical}
 
 -- ---- what is asked of one row
 
@@ -87,6 +87,10 @@ pub record IsCanonicalRow (rows : List Row) (form : Form) (x : Insn) (n : ℕ) :
 abbrev pub OneCanonicalRow : List Row → Type 0
 OneCanonicalRow rows = (x : Insn) (form : Form) (m : ℕ) (q : Row) → slice_get rows m ≡ Some q → q.form ≡ form → SpelledSomewhere q x
     → (n : ℕ) × (IsCanonicalRow rows form x n × ((k : ℕ) → IsCanonicalRow rows form x k → k ≡ n))
+
+-- an instruction that some row of a form spells somewhere has a chosen row of that form
+abbrev pub HasChosen : List Row → Type 0
+HasChosen rows = (x : Insn) (form : Form) (m : ℕ) (q : Row) → slice_get rows m ≡ Some q → q.form ≡ form → SpelledSomewhere q x → IsSome (chosen rows form x)
 
 -- a canonical spelling is one by the canonical row
 abbrev pub CanonicalSpells : List Row → Type 0

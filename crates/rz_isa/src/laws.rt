@@ -1,6 +1,7 @@
 ghost use Rattle.std.specs.Prelude.{IsTrue};
 ghost use Rattle.rz_isa.specs.Emitted.{Emits, EmitsLookup, has_lookup};
-ghost use Rattle.rz_isa.specs.Table.{OneRow, Lengths, OneCanonicalRow, CanonicalSpells};
+ghost use Rattle.rz_isa.specs.Table.{OneRow, Lengths, OneCanonicalRow, HasChosen, CanonicalSpells};
+ghost use Rattle.rz_isa.specs.Targets.{RipTargets, DirectTargets, IndirectOperands};
 
 use crate::table::InsnTable;
 
@@ -20,9 +21,23 @@ pub fn one_canonical_row<T: InsnTable>()
     ensures { OneCanonicalRow T.rows }
 {}
 
+/// An instruction that some row of a form spells somewhere has a chosen row of that form.
+pub fn has_chosen<T: InsnTable>()
+    ensures { HasChosen T.rows }
+{}
+
 /// A canonical spelling is a spelling by the canonical row, and names the instruction.
 pub fn canonical_spells<T: InsnTable>()
     ensures { CanonicalSpells T.rows }
+{}
+
+/// What an instruction names relative to RIP is its ModRM operand's address, exactly where its
+/// operation uses that operand; its direct target is the immediate, exactly where its row has a
+/// displacement from the next address; an indirect call or jump reads an operand of 64 bits.
+pub fn targets<T: InsnTable>()
+    ensures rip { RipTargets }
+    ensures direct { DirectTargets T.rows }
+    ensures indirect { IndirectOperands T.rows }
 {}
 
 /// The instructions that fragments and stubs are made of have canonical spellings; a table with

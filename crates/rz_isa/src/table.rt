@@ -3,6 +3,7 @@ ghost use Rattle.std.specs.List.{list_all};
 ghost use Rattle.rz_isa.specs.declared.rows.Row.{Row};
 ghost use Rattle.rz_isa.specs.Table.{is_plain, all_exclude};
 ghost use Rattle.rz_isa.specs.Regular.{is_regular};
+ghost use Rattle.rz_isa.specs.Suited.{is_suited};
 ghost use Rattle.rz_isa.specs.Emitted.{Emits, EmitsLookup, has_lookup};
 ghost use Rattle.rz_isa.specs.Index.{ListsOpcode, numbers_of};
 
@@ -40,6 +41,9 @@ pub trait InsnTable {
 
     /// The fields of each row can be told from the instruction and the other way round.
     ghost regular: { IsTrue (list_all is_regular rows) };
+
+    /// The letters of each row's operation suit the row.
+    ghost suited: { IsTrue (list_all is_suited rows) };
 
     /// Moves, jumps, pushes and what ends a path have canonical spellings, with these lengths.
     ghost emits: { Emits rows };

@@ -38,7 +38,11 @@ impl<T> Model for Arena<T> {
     ghost coded = { arena_code T.code };
 
     ghost view = { λ a. record {
-        outs = a.outs.lists; ins = a.ins.lists; values = a.values.items; spare = a.spare } };
+      outs = a.outs.lists;
+      ins = a.ins.lists;
+      values = a.values.items;
+      spare = a.spare;
+    } };
 
     ghost invariant = { λ a. HasRoom a.outs a.ins (vec_len a.values) (vec_capacity a.values) a.spare };
 }

@@ -5,10 +5,10 @@ ghost use Rattle.rz_links.specs.Lists.{AreBelow, IsNext, IsPrev, StandsOnce, aft
 ghost use Rattle.rz_links.specs.Calls.Chains.{Chains};
 ghost use Rattle.rz_links.specs.Laws.Chains.{Chains-prop};
 
-use rz_num::OutOfMemory;
 use crate::links::{
     Link, Place, add_heads, detach, move_after, move_before, next_of, prev_of, push_node,
 };
+use rz_num::OutOfMemory;
 use std::alloc::Global;
 use std::marker::Model;
 

@@ -24,9 +24,9 @@ use Rattle.rz_machine.specs.Keeps.{Same, AlikeEnds}
 use Rattle.rz_machine.proofs.CodeLaws.{HasCode, step_code}
 use Rattle.rz_sys.specs.Laws.Alike.{CalledAlike, answer_alike, world_after_alike}
 use Rattle.rz_machine.proofs.OneForm.{CompletionAlike, complete_alike}
-use Rattle.rz_machine.proofs.Runs.{dest, Follows, Stand}
-use Rattle.rz_machine.proofs.Placed.{InsnAt}
-use Rattle.rz_machine.proofs.Comes.{decodes_to, step_is, moved, jump_is, branch_is, halt_is, Comes, stay, one_more, weaker, jump_comes, Onto, onto}
+use Rattle.rz_machine.proofs.Runs.{Follows, Stand}
+use Rattle.rz_machine.specs.Placement.{dest, InsnAt, Onto, FragmentBy, FragmentAt}
+use Rattle.rz_machine.proofs.Comes.{decodes_to, step_is, moved, jump_is, branch_is, halt_is, Comes, stay, one_more, weaker, jump_comes, onto}
 
 -- RCX is set anew
 rcx_again : (regs : List ℕ) (x y z w : ℕ) → set (set (set (set regs 0 x) 1 y) 11 z) 1 w ≡ set (set (set regs 0 x) 1 w) 11 z
@@ -41,19 +41,6 @@ mov_is r v next t low =
     let P : ℕ → Machine = λ u. record t { cpu = record t.cpu { regs = set t.cpu.regs r u; rip = next } } in
     let e : v % 2 ^ 32 ≡ v = mod-eq_of_lt low in
     ap P e
-
-abbrev pub FragmentBy : Way → Decoder → Edges → Layout → (ℕ → ℕ) → Regions → ℕ → ℕ → Insn → Type 0
-FragmentBy Onward dec edges lay place wm a n x = (p : ℕ) × InsnAt dec wm (place a) x p × Onto dec wm p (dest edges place lay.stub a n)
-FragmentBy (Jumps b) dec edges lay place wm a n x = (p : ℕ) × InsnAt dec wm (place a) (insn.Jmp (dest edges place lay.stub a b)) p
-FragmentBy (Branches c b) dec edges lay place wm a n x =
-    (p : ℕ) × InsnAt dec wm (place a) (insn.Jcc c (dest edges place lay.stub a b)) p × Onto dec wm p (dest edges place lay.stub a n)
-FragmentBy Calls dec edges lay place wm a n x =
-    (p q : ℕ) × (n < 2 ^ 32) × InsnAt dec wm (place a) x p × InsnAt dec wm p (mov_number 1 n) q × Onto dec wm q (dest edges place lay.stub a n)
-FragmentBy Halts dec edges lay place wm a n x = (p : ℕ) × InsnAt dec wm (place a) x p × IsInside lay.code (place a)
-
--- the fragment of the instruction at a, before n, stands at the place of a
-abbrev pub FragmentAt : Decoder → Edges → Layout → (ℕ → ℕ) → Regions → ℕ → ℕ → Insn → Type 0
-FragmentAt dec edges lay place wm a n x = FragmentBy (way_of x) dec edges lay place wm a n x
 
 module _ (dec : Decoder) (edges : Edges) (lay : Layout) (place bound : ℕ → ℕ) (room : (a : ℕ) → 3 ≤ bound a) (xm wm : Regions) where
   abbrev To : ℕ → ℕ → ℕ

@@ -8,6 +8,7 @@ pub mod Runs
 pub mod Placed
 pub mod Comes
 pub mod Fragment
+pub mod PlacedRuns
 pub mod SetLaws
 pub mod StartCode
 pub mod TraceLaws

@@ -4,6 +4,7 @@ use Rattle.rz_machine.specs.declared.insn.Insn.{Insn}
 use Rattle.rz_machine.specs.declared.decode.Decoded.TheVariants as decoded
 use Rattle.rz_image.specs.Memory.{Regions, cell_at, code_of, fetched, fetch, wrap}
 use Rattle.rz_machine.specs.Insn.{Decoder}
+use Rattle.rz_machine.specs.Placement.{InsnAt}
 
 -- these bytes may be executed at this place
 abbrev pub BytesAt : Regions → ℕ → List ℕ → Type 0
@@ -39,17 +40,6 @@ fetch_front m p (b ∷ bs) n h =
     let more = fetch_front m (p + 1) bs n h.1 in
     let e : length (b ∷ bs) + n ≡ suc (length bs + n) = omega arith in
     (more.0, ap (fetch m p) e ∙ ap (λ o. fetched o (fetch m (p + 1) (length bs + n))) h.0 ∙ ap (λ l. b ∷ l) more.1)
-
--- an instruction stands at a place, and the next address is that place
-pub record InsnAt (dec : Decoder) (m : Regions) (p : ℕ) (x : Insn) (next : ℕ) : Type 0 where
-  pub len : ℕ
-  pub spelled : dec (fetch m p 15) p ≡ decoded.Insn x len
-  pub ends : wrap (p + len) ≡ next
-
--- instructions stand one after the other, from one place to another
-abbrev pub InsnsAt : Decoder → Regions → ℕ → List Insn → ℕ → Type 0
-InsnsAt dec m p [] q = p ≡ q
-InsnsAt dec m p (x ∷ xs) q = (next : ℕ) × InsnAt dec m p x next × InsnsAt dec m next xs q
 
 -- bytes that are decoded, whatever follows
 pub insn_of_bytes : (dec : Decoder) (m : Regions) (p : ℕ) (x : Insn) (bs : List ℕ) → BytesAt m p bs → length bs ≤ 15 → p + length bs < 2 ^ 64 → ((rest : List ℕ) → dec (bs ++ rest) p ≡ decoded.Insn x (length bs)) → InsnAt dec m p x (p + length bs)

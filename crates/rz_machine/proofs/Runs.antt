@@ -11,12 +11,9 @@ use Rattle.rz_machine.specs.Added.{Layout}
 use Rattle.rz_machine.specs.Keeps.{Same, Leaves, IsCut, NoCut, AlikeEnds, StopsAtStub, KeepsRun}
 use Rattle.rz_machine.specs.Kept.{Edges, has_edge}
 use Rattle.rz_machine.specs.Pace.{IsMoment, Paced}
+use Rattle.rz_machine.specs.Placement.{dest}
 use Rattle.rz_machine.proofs.CodeLaws.{HasCode, step_code, after_code, after_range}
 use Rattle.rz_machine.proofs.RegLaws.{AreRegs, step_regs}
-
--- where the new run goes where the old one goes from a to b
-abbrev pub dest : Edges → (ℕ → ℕ) → (ℕ → ℕ) → ℕ → ℕ → ℕ
-dest edges place stub a b = if has_edge edges a b then place b else stub a
 
 -- the old run's step from a led to s, and some steps of the new one lead to the same
 pub record Follows (dec : Decoder) (edges : Edges) (lay : Layout) (place bound : ℕ → ℕ) (a : ℕ) (s t : Machine) : Type 0 where

@@ -13,6 +13,7 @@ pub mod Added
 pub mod Keeps
 pub mod WrittenFile
 pub mod Pace
+pub mod Placement
 pub mod LeftCode
 pub mod Traced
 pub mod TableLaws

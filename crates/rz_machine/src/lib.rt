@@ -6,6 +6,7 @@ pub mod encode;
 pub mod first;
 pub mod insn;
 pub mod kinds;
+pub mod law;
 pub mod machine;
 pub mod start;
 pub mod table;

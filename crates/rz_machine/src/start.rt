@@ -8,15 +8,15 @@ ghost use Rattle.rz_machine.specs.Start.{start as start_of, first_regs, heap_reg
 ghost use Rattle.rz_elf.specs.Loaded.{IsLoad, loaded, loaded_region};
 
 use crate::machine::{Cpu, Machine};
-use rz_sys::event::Events;
-use rz_sys::input::{Input, Replies};
-use rz_sys::world::World;
 use rz_elf::elf::{Elf, Load};
 use rz_flags::Flags;
 use rz_image::memory::Memory;
 use rz_image::perm::Perm;
 use rz_image::region::Region;
 use rz_num::{Bytes, OutOfMemory};
+use rz_sys::event::Events;
+use rz_sys::input::{Input, Replies};
+use rz_sys::world::World;
 use std::alloc::Global;
 
 // The stack's address and size in bytes, and the size of the heap.

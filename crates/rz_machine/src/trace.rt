@@ -13,10 +13,10 @@ ghost use Rattle.rz_elf.specs.Loaded.{loaded};
 
 use crate::machine::{End, Machine};
 use crate::start::start;
-use rz_sys::input::Input;
 use crate::table::InsnTable;
 use rz_elf::elf::Elf;
 use rz_num::{OutOfMemory, Pairs, Words};
+use rz_sys::input::Input;
 use std::alloc::Global;
 use std::collections::BTreeSet;
 use std::marker::Model;

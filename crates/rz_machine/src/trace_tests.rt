@@ -1,12 +1,12 @@
 // Traces of worked programs, and the calls that take memory where there is enough.
 
 use crate::first::First;
-use rz_sys::input::Input;
 use crate::thin::read_thin;
 use crate::trace::{AddrSet, EdgeSet, Record, TraceRefusal, trace};
 use rz_elf::elf::Elf;
 use rz_elf::fault::ElfError;
 use rz_num::{Bytes, put_u64};
+use rz_sys::input::Input;
 use std::alloc::Global;
 use std::test::Fail;
 

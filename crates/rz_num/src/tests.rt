@@ -1,8 +1,8 @@
-// What no clause says: the values of worked fields, pages and words, and that the calls that take memory succeed.
+// What no clause says: the values of worked fields, pages, words, products and quotients, and that the calls that take memory succeed.
 
 use crate::{
-    Bytes, OutOfMemory, Pairs, Text, Width, Words, get_u16, get_u32, get_u64, mask, page_up,
-    put_u16, put_u32, put_u64, sign_extend,
+    Bytes, OutOfMemory, Pairs, Text, Width, Words, add_carry, div_wide, get_u16, get_u32, get_u64,
+    mask, mul_wide, page_up, put_u16, put_u32, put_u64, sign_extend, sub_borrow,
 };
 
 #[test]
@@ -79,4 +79,36 @@ fn texts_grow(rt: HostRuntime) -> Result<(), std::test::Fail> {
     text.push_all("bc")?;
     assert_eq!(rt; text.as_slice(), "aébc");
     Ok(())
+}
+
+#[test]
+fn halves_of_products(rt: HostRuntime) {
+    // -1 times -1 is 1, and 255 times 255 is 0xfe01.
+    for (signed, halves) in [(true, (1, 0)), (false, (1, 0xfe))] {
+        assert_eq!(rt; mul_wide(Width::W8, signed, 0xff, 0xff), halves);
+    }
+}
+
+#[test]
+fn quotients_and_remainders(rt: HostRuntime) {
+    for (w, signed, high, low, by, answer) in [
+        (Width::W8, false, 4, 0, 2, None),
+        // -7 by 2 is -3, and -1 remains.
+        (
+            Width::W32,
+            true,
+            0xffff_ffff,
+            0xffff_fff9,
+            2,
+            Some((0xffff_fffd, 0xffff_ffff)),
+        ),
+    ] {
+        assert_eq!(rt; div_wide(w, signed, high, low, by), answer);
+    }
+}
+
+#[test]
+fn carries_and_borrows(rt: HostRuntime) {
+    assert_eq!(rt; add_carry(Width::W16, 0xffff, 0, true), (0, true));
+    assert_eq!(rt; sub_borrow(Width::W64, 0, u64::MAX, true), (0, true));
 }

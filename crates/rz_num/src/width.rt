@@ -60,15 +60,15 @@ pub fn sign_extend(width: Width, x: u64) -> u64
 {
     let low = mask(width, x);
     match width {
-        Width::W8 => filled(low, 0x80),
-        Width::W16 => filled(low, 0x8000),
-        Width::W32 => filled(low, 0x8000_0000),
+        Width::W8 => extend(low, 0x80),
+        Width::W16 => extend(low, 0x8000),
+        Width::W32 => extend(low, 0x8000_0000),
         Width::W64 => low,
     }
 }
 
 // The number with all bits above `half`, its sign bit, equal to that bit.
-fn filled(low: u64, half: u64) -> u64
+fn extend(low: u64, half: u64) -> u64
     requires positive { 0 < half }
     requires narrow { half < 2 ^ 63 }
     requires within { low < 2 * half }

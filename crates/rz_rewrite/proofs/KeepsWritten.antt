@@ -6,34 +6,28 @@ use Rattle.rz_machine.specs.declared.insn.Insn.TheVariants as insn
 use Rattle.rz_rewrite.specs.declared.items.Item.{Item}
 use Rattle.rz_rewrite.specs.declared.items.Label.{Label}
 use Rattle.rz_rewrite.specs.declared.items.Label.TheVariants as label
-use Rattle.rz_machine.specs.declared.machine.End.TheVariants as end
 use Rattle.rz_machine.specs.declared.machine.Machine.{Machine}
 use Rattle.rz_sys.specs.declared.input.Input.{Input}
 use Rattle.rz_machine.specs.Kept.{Kept, has_node, sorted}
-use Rattle.rz_image.specs.Memory.{Regions, IsOutside, SameCell, Alike, RangeStands, cell_at, wrap}
-use Rattle.rz_machine.specs.State.{step}
-use Rattle.rz_machine.specs.Touches.{StepClear}
+use Rattle.rz_image.specs.Memory.{Regions, IsOutside, SameCell, Alike, NoSelfWritten, cell_at, wrap}
 use Rattle.rz_machine.specs.Start.{start, heap_region, stack_region, first_regs, first_rsp}
 use Rattle.rz_machine.specs.First.{decode_first}
 use Rattle.rz_elf.specs.Elf.{Image}
 use Rattle.rz_machine.specs.Added.{Layout, node_count, added, layout_of}
 use Rattle.rz_elf.specs.AddedRange.{Added, all_stubs}
 use Rattle.rz_elf.specs.WrittenFile.{Parts, added_regions, without_code, new_image}
-use Rattle.rz_machine.specs.Keeps.{StopsAtStub, KeepsRun}
+use Rattle.rz_machine.specs.Keeps.{KeepsRun}
 use Rattle.rz_machine.specs.Pace.{Paced}
-use Rattle.rz_machine.specs.Nodes.{code_in, IsPlausible}
+use Rattle.rz_machine.specs.Nodes.{code_in}
 use Rattle.rz_machine.proofs.SetLaws.{has_node-sorted, IsAscending-sorted}
-use Rattle.rz_sys.specs.Laws.Alike.{same_world}
 use Rattle.rz_rewrite.specs.Fragments.{items_of, items_for, trimmed, items_len, address_of, items_bytes}
 use Rattle.rz_elf.specs.PlainImage.{IsPlainImage}
-use Rattle.rz_rewrite.specs.Rewritten.{HasRoom, IsRewritten, fragments_of, place_of, code_of_nodes}
-use Rattle.rz_machine.proofs.CodeLaws.{HasCode}
-use Rattle.rz_machine.proofs.RegLaws.{AreRegs, set_regs}
-use Rattle.rz_machine.proofs.Runs.{Follows, Stand, keeps, paced}
-use Rattle.rz_machine.proofs.Placed.{BytesAt, InsnAt}
+use Rattle.rz_rewrite.specs.Rewritten.{CanRewrite, HasRoom, IsRewritten, fragments_of, place_of, code_of_nodes}
+use Rattle.rz_machine.proofs.Placed.{BytesAt}
+use Rattle.rz_machine.specs.Placement.{InsnAt, FragmentAt, IsPlacement, IsPlaced}
+use Rattle.rz_machine.proofs.PlacedRuns.{placements_keep}
+use Rattle.rz_machine.proofs.NodeLaws.{spelled_at-code_in}
 use Rattle.rz_rewrite.proofs.SpelledItems.{insn_of_spelling, AllSpelled, items_stand}
-use Rattle.rz_machine.proofs.Comes.{step_is, halt_is}
-use Rattle.rz_machine.proofs.Fragment.{FragmentAt, fragment_follows}
 use Rattle.rz_rewrite.proofs.Trimmed.{spelled_trimmed, spelled_items_of, length-trimmed, length-items_of, fragment_stands}
 use Rattle.rz_rewrite.proofs.Emitted.{items, Found, found}
 use Rattle.rz_image.proofs.Cells.{IsFixed, none_self_written}
@@ -41,20 +35,8 @@ use Rattle.rz_rewrite.proofs.Images.{all_append, stripped_fixed, stripped_same, 
 use Rattle.rz_rewrite.proofs.PlainNodes.{plain_fixed, Stands, stands}
 use Rattle.rz_rewrite.proofs.Parts.{Lie, stub_found}
 use Rattle.rz_rewrite.proofs.RewrittenLaws.{stubs_room, place_below, place_in_code, stop_low, label_low, lie}
-use Rattle.rz_machine.proofs.StartCode.{start_code}
 
--- the registers at the start
-first_regs-are : (input : Input) → AreRegs (first_regs input)
-unfolding first_regs first_rsp
-first_regs-are input = set_regs (replicate 16 0) 4 _ (record { sixteen = refl; words = zeros }) (omega arith)
-  where
-    zero_word : 0 < 2 ^ 64
-    zero_word = omega arith
-
-    zeros : AllByRecursion (λ v. v < 2 ^ 64) (replicate 16 0)
-    zeros = let z = zero_word in (z, (z, (z, (z, (z, (z, (z, (z, (z, (z, (z, (z, (z, (z, (z, (z, tt))))))))))))))))
-
-module _ (x : Image) (kept : Kept) (parts : Parts) (entry : ℕ) (can : IsPlausible decode_first (code_in x.loads) x.entry kept) (plain : IsPlainImage x) (room : HasRoom decode_first x kept) (are : IsRewritten decode_first x kept parts entry) (input : Input) where
+module _ (x : Image) (kept : Kept) (parts : Parts) (entry : ℕ) (can : CanRewrite decode_first x kept) (plain : IsPlainImage x) (room : HasRoom decode_first x kept) (are : IsRewritten decode_first x kept parts entry) (input : Input) where
   abbrev a : Added
   a = added decode_first x kept
 
@@ -103,17 +85,6 @@ module _ (x : Image) (kept : Kept) (parts : Parts) (entry : ℕ) (can : IsPlausi
       same : (b : ℕ) → IsOutside lay.added b → SameCell (cell_at old.mem b) (cell_at new.mem b)
       same b out = rw (new_mem, beside parts rest b (outside b out)) (stripped_same x.loads ends b)
 
-  -- the old run's code is that of the loads
-  old_code : HasCode x.loads old.mem
-  old_code = start_code x input (none_self_written x.loads (plain_fixed x.loads plain))
-
-  -- the new run's code can't be written
-  new_code : HasCode new.mem new.mem
-  new_code =
-      let loads = (new_image x parts entry).loads in
-      let fixed = all_append IsFixed (added_regions parts) (map without_code x.loads) (added_fixed parts rest) (stripped_fixed x.loads) in
-      record { same = record { at = λ b. refl }; fixed = (start_code (new_image x parts entry) input (none_self_written loads fixed)).fixed }
-
   -- the fragments stand in the code part
   code_bytes : BytesAt new.mem a.code (code_of_nodes decode_first x kept ++ are.fill)
   code_bytes =
@@ -161,47 +132,54 @@ module _ (x : Image) (kept : Kept) (parts : Parts) (entry : ℕ) (can : IsPlausi
       far : (p l : ℕ) → p + 512 ≤ 0x70000000 → l ≤ 32 → p + l < 2 ^ 64
       far p l h k = omega arith
 
-  -- and follows it
-  each : (s t : Machine) → IsKept s.cpu.rip → Stand lay place x.loads new.mem s t → StepClear lay.added decode_first s → Follows decode_first kept.edges lay place (λ b. 3) s.cpu.rip (step decode_first s) t
-  each s t node st clear =
-      let b : ℕ = s.cpu.rip in
-      let nd = can.stands.nodes b node in
-      let there = stands x plain b nd.insn nd.len nd.spelled in
-      let here : InsnAt decode_first x.loads b nd.insn (wrap (b + nd.len)) = record { len = nd.len; spelled = there.fetched; ends = refl } in
-      let fragment = fragment_at b nd.insn nd.len node there in
-      fragment_follows decode_first kept.edges lay place (λ c. 3) (λ c. omega arith) x.loads new.mem b (wrap (b + nd.len)) nd.insn s t here fragment refl st clear
-
-  -- a kept node's stub ends the run
-  stub_stops : (t : Machine) (b : ℕ) → IsKept b → t.end ≡ None → HasCode new.mem t.mem → RangeStands lay.added new.mem t.mem → t.cpu.rip ≡ lay.stub b → StopsAtStub decode_first t
-  stub_stops t b node runs code range there =
+  -- a kept node's stub begins with UD2
+  stub_at : (b : ℕ) → IsKept b → InsnAt decode_first new.mem (lay.stub b) insn.Ud2 (lay.stub b + 2)
+  stub_at b node =
       let p : ℕ = lay.stub b in
       let fill : List ℕ = replicate (a.stop - a.stubs - length (all_stubs (sorted kept.nodes))) 0xcc in
       let bytes : BytesAt new.mem a.stubs (all_stubs (sorted kept.nodes) ++ fill) = subst (BytesAt new.mem a.stubs) are.parts_added.stubs stub_bytes in
       let low : p + 2 < 2 ^ 64 = far p (label_low decode_first x kept room plain (label.Stub b)) in
-      let stop : InsnAt decode_first new.mem p insn.Ud2 (p + 2) = insn_of_spelling new.mem p insn.Ud2 (stub_found new.mem a.stubs b (sorted kept.nodes) fill (has_node-sorted kept.nodes b ∙ node) bytes) tt low in
-      ap (λ u. u.end) (step_is decode_first new.mem p insn.Ud2 (p + 2) stop t runs there code ∙ halt_is insn.Ud2 (p + 2) t refl)
+      insn_of_spelling new.mem p insn.Ud2 (stub_found new.mem a.stubs b (sorted kept.nodes) fill (has_node-sorted kept.nodes b ∙ node) bytes) tt low
     where
       far : (p : ℕ) → p < 2 ^ 31 → p + 2 < 2 ^ 64
       far p h = omega arith
 
-  -- both runs stand at the start
-  standing : Stand lay place x.loads new.mem old new
-  standing =
+  -- so the new memory has a placement of what is kept
+  placement : IsPlacement decode_first x kept lay place new.mem
+  placement =
       record {
-        old_runs = refl;
-        new_runs = refl;
-        there = are.begins;
-        same = record { regs = refl; flags = refl; world = same_world old.world; mem = alike };
-        regs = first_regs-are input;
-        old_code = old_code;
-        new_code = new_code;
-        added = record { perms = λ b i. record { read = refl; write = refl; execute = refl }; bytes = λ b i w. refl };
+        fragments = λ b node y len fetched. fragment_at b y len node (stands x plain b y len (spelled_at-code_in decode_first x.loads b ∙ fetched));
+        stubs = λ b node. (lay.stub b + 2, stub_at b node);
       }
 
-  -- the new file's run keeps the old one's
-  pub keeps_written : KeepsRun decode_first kept.edges (layout_of decode_first x kept) (start x input) (start (new_image x parts entry) input)
-  keeps_written = keeps decode_first kept.edges lay place (λ b. 3) IsKept x.loads new.mem can.stands.ends each stub_stops old new can.entry_kept standing
+module _ (x : Image) (kept : Kept) (parts : Parts) (entry : ℕ) (can : CanRewrite decode_first x kept) (plain : IsPlainImage x) (room : HasRoom decode_first x kept) (are : IsRewritten decode_first x kept parts entry) where
+  abbrev w : Image
+  w = new_image x parts entry
 
-  -- with one to three steps for each
-  pub paced_written : Paced decode_first kept.edges (layout_of decode_first x kept) (λ b. 3) (start x input) (start (new_image x parts entry) input)
-  paced_written = paced decode_first kept.edges lay place (λ b. 3) IsKept x.loads new.mem can.stands.ends each stub_stops old new can.entry_kept standing
+  pub placed_written : IsPlaced decode_first x w kept (layout_of decode_first x kept) (place_of decode_first x kept)
+  placed_written =
+      record {
+        begins = are.begins;
+        first_break = refl;
+        alike = λ input. alike x kept parts entry can plain room are input;
+        placement = λ input. placement x kept parts entry can plain room are input;
+      }
+
+  -- none of the new loads is both written and executed
+  w_fixed : NoSelfWritten w.loads
+  w_fixed = none_self_written w.loads (all_append IsFixed (added_regions parts) (map without_code x.loads) (added_fixed parts (map without_code x.loads)) (stripped_fixed x.loads))
+
+  x_fixed : NoSelfWritten x.loads
+  x_fixed = none_self_written x.loads (plain_fixed x.loads plain)
+
+  module _ (input : Input) where
+    both : KeepsRun decode_first kept.edges (layout_of decode_first x kept) (start x input) (start w input) × Paced decode_first kept.edges (layout_of decode_first x kept) (λ b. 3) (start x input) (start w input)
+    both = placements_keep decode_first x w kept (layout_of decode_first x kept) (place_of decode_first x kept) can x_fixed w_fixed placed_written input
+
+    -- the new file's run keeps the old one's
+    pub keeps_written : KeepsRun decode_first kept.edges (layout_of decode_first x kept) (start x input) (start w input)
+    keeps_written = both.0
+
+    -- with one to three steps for each
+    pub paced_written : Paced decode_first kept.edges (layout_of decode_first x kept) (λ b. 3) (start x input) (start w input)
+    paced_written = both.1

@@ -8,7 +8,8 @@ use Rattle.rz_rewrite.specs.declared.items.Item.TheVariants as item
 use Rattle.rz_image.specs.Memory.{Regions}
 use Rattle.rz_machine.specs.First.{decode_first, spelling, spelling_len, HasSpelling}
 use Rattle.rz_machine.specs.FirstLaws.{decode_spelling, length-spelling}
-use Rattle.rz_machine.proofs.Placed.{BytesAt, bytes_front, bytes_back, InsnAt, InsnsAt, insn_of_bytes}
+use Rattle.rz_machine.proofs.Placed.{BytesAt, bytes_front, bytes_back, insn_of_bytes}
+use Rattle.rz_machine.specs.Placement.{InsnAt, InsnsAt}
 use Rattle.rz_rewrite.specs.Fragments.{item_len, items_len, resolved, items_bytes}
 
 -- a spelling is at most 15 bytes long

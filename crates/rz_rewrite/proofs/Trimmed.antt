@@ -13,11 +13,8 @@ use Rattle.rz_machine.specs.FirstLaws.{spelled_anywhere}
 use Rattle.rz_machine.specs.Added.{Layout}
 use Rattle.rz_machine.specs.Kept.{Edges, has_edge}
 use Rattle.rz_rewrite.specs.Fragments.{to_label, jump_to, items_by, items_of, is_following, is_needless, trimmed, item_len, items_len, resolved}
-use Rattle.rz_machine.proofs.Runs.{dest}
-use Rattle.rz_machine.proofs.Placed.{InsnAt, InsnsAt}
+use Rattle.rz_machine.specs.Placement.{dest, InsnAt, InsnsAt, Onto, Falls, ByJump, FragmentBy, FragmentAt}
 use Rattle.rz_rewrite.proofs.SpelledItems.{AllSpelled, short_spelling}
-use Rattle.rz_machine.proofs.Comes.{Onto, Falls, ByJump}
-use Rattle.rz_machine.proofs.Fragment.{FragmentBy, FragmentAt}
 
 -- trimmed items are spelled too
 pub spelled_trimmed : (at : Label → ℕ) (following : Option ℕ) (from : ℕ) (items : List Item) → AllSpelled at from items → AllSpelled at from (trimmed following items)

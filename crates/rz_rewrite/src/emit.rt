@@ -7,10 +7,10 @@ ghost use Rattle.rz_rewrite.specs.Fragments.{fragments_bytes, items_bytes, items
 ghost use Rattle.rz_rewrite.specs.Places.{address_in};
 ghost use Rattle.rz_rewrite.specs.Spellable.{IsFragmentSpellable, IsSpellable};
 
+use crate::items::{Fragment, Item};
 use crate::layout::{Layout, item_len, items_len};
 use rz_machine::encode::encode;
 use rz_machine::insn::Insn;
-use crate::items::{Fragment, Item};
 use rz_num::{Bytes, OutOfMemory};
 use std::alloc::Global;
 

@@ -9,11 +9,11 @@ ghost use Rattle.rz_machine.specs.Nodes.{code_in, spelled_at};
 ghost use Rattle.rz_machine.specs.TableLaws.{AreBytes};
 ghost use Rattle.rz_rewrite.specs.Spellable.{IsDecodedSpellable, IsFragmentSpellable};
 
+use crate::items::{Fragment, Item, Items, Label};
 use rz_image::memory::Memory;
 use rz_machine::decode::Decoded;
 use rz_machine::first::First;
 use rz_machine::insn::{Insn, Operand, Place, Reg};
-use crate::items::{Fragment, Item, Items, Label};
 use rz_machine::table::InsnTable;
 use rz_machine::trace::EdgeSet;
 use rz_num::{OutOfMemory, Width};

@@ -2,8 +2,8 @@
 
 ghost use Rattle.std.specs.Prelude.{◌≡◌, [], ◌∷◌, ◌++◌, OnOk, OnErr, IfOk};
 
-use rz_machine::insn::Insn;
 use rz_flags::Cond;
+use rz_machine::insn::Insn;
 use rz_num::OutOfMemory;
 use std::alloc::Global;
 use std::marker::Model;

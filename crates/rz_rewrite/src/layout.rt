@@ -8,8 +8,8 @@ ghost use Rattle.rz_machine.specs.Kept.{IsAscending};
 ghost use Rattle.rz_rewrite.specs.Places.{address_in, nodes_of, IsPlacingOf};
 
 use crate::emit::STUB_SIZE;
-use rz_machine::encode::encoded_len;
 use crate::items::{Fragment, Item, Label};
+use rz_machine::encode::encoded_len;
 use rz_num::OutOfMemory;
 use std::alloc::Global;
 use std::marker::Model;

@@ -21,13 +21,13 @@ ghost use Rattle.rz_rewrite.specs.Places.{address_in};
 ghost use Rattle.rz_rewrite.specs.Spellable.{IsFragmentSpellable};
 
 use crate::added::{AddedRange, lowest_load, page_floor, parts_below};
+use crate::elf_write::{Parts, write_elf};
 use crate::emit::{emit, emit_stubs};
 use crate::fragment::{Fragments, are_bytes, fragments_of};
+use crate::items::{Fragment, Label};
 use crate::layout::{Layout, lay_out};
 use rz_elf::elf::Elf;
 use rz_image::memory::Memory;
-use crate::elf_write::{Parts, write_elf};
-use crate::items::{Fragment, Label};
 use rz_machine::start::load_regions;
 use rz_machine::trace::Record;
 use rz_num::{Bytes, OutOfMemory};

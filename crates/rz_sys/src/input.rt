@@ -5,6 +5,7 @@ ghost use Rattle.std.specs.Prelude.{List, ℕ};
 use rz_num::{Bytes, OutOfMemory};
 use std::alloc::Global;
 use std::collections::VecDeque;
+use std::collections::vec_deque::Iter;
 use std::marker::Model;
 
 /// How the outside answers one call of read or write.
@@ -35,6 +36,7 @@ impl Model for Replies {
 
 impl Replies {
     ghost use Rattle.std.specs.Prelude.{◌≡◌, [], ◌∷◌, ◌++◌, OnOk, OnErr};
+    ghost use Rattle.std.specs.VecDeque.Iter.{deque_iter_rest};
     ghost use Rattle.rz_sys.specs.Answer.{next_reply, later_replies};
 
     /// No replies: then each call is answered whole. It takes no memory.
@@ -53,6 +55,13 @@ impl Replies {
     {
         self.items.push_back(reply)?;
         Ok(())
+    }
+
+    /// The replies in turn.
+    pub fn iter(&self) -> Iter<'_, Reply>
+        ensures { deque_iter_rest result ≡ self.now }
+    {
+        self.items.iter()
     }
 
     /// The reply in turn.

@@ -1,6 +1,6 @@
-use Rattle.std.specs.Prelude.{◌≡◌, ◌&&◌, Bool, true, [], ◌∷◌, Some, None, is_some, pos, refl, if◌then◌else◌}
+use Rattle.std.specs.Prelude.{◌≡◌, ◌&&◌, Bool, true, false, [], ◌∷◌, Some, None, is_some, pos, negsuc, refl, if◌then◌else◌}
 use Rattle.std.specs.List.{list_all}
-use Rattle.rz_num.specs.declared.width.Width.TheVariants.{W16, W32, W64}
+use Rattle.rz_num.specs.declared.width.Width.TheVariants.{W8, W16, W32, W64}
 use Rattle.rz_flags.specs.declared.ArithOp.TheVariants as ariths
 use Rattle.rz_flags.specs.declared.ShiftOp.TheVariants as shifts
 use Rattle.rz_flags.specs.declared.ScanOp.TheVariants as scans
@@ -18,8 +18,10 @@ use Rattle.rz_isa.specs.Having.{can_have}
 use Rattle.rz_isa.specs.Finding.{least, found}
 use Rattle.rz_isa.specs.Regular.{is_exchange}
 use Rattle.rz_isa.specs.Canonical.{canonical}
+use Rattle.rz_isa.specs.Emitted.{has_lookup}
 use Rattle.rz_isa.specs.Spells.{Spells}
 use Rattle.rz_table.specs.declared.profile_rows.TheConstants.{PROFILE}
+use Rattle.rz_table.specs.declared.early_rows.TheConstants.{EARLY}
 
 -- Rows of profile 1, evaluated.
 
@@ -198,6 +200,95 @@ shift_by_one = refl
 -- 66 stands before F3
 ones_of_cx : canonical PROFILE (insns.Scan scans.Popcnt W16 0 (places.Reg (regs.R 1))) 0x1000 forms.Near ≡ Some (0x66 ∷ 0xf3 ∷ 0x0f ∷ 0xb8 ∷ 0xc1 ∷ [])
 ones_of_cx = refl
+
+-- ---- the shortest spelling: RBP and R13 need a displacement, RSP and R12 a SIB
+
+base_rax : canonical PROFILE (insns.Lea W64 0 (places.Mem (record { base = Some 0; index = None; scale = 1; disp = pos 0 }))) 0x1000 forms.Near ≡ Some (0x48 ∷ 0x8d ∷ 0x00 ∷ [])
+base_rax = refl
+
+base_rbp : canonical PROFILE (insns.Lea W64 0 (places.Mem (record { base = Some 5; index = None; scale = 1; disp = pos 0 }))) 0x1000 forms.Near ≡ Some (0x48 ∷ 0x8d ∷ 0x45 ∷ 0x00 ∷ [])
+base_rbp = refl
+
+base_r13 : canonical PROFILE (insns.Lea W64 0 (places.Mem (record { base = Some 13; index = None; scale = 1; disp = pos 0 }))) 0x1000 forms.Near ≡ Some (0x49 ∷ 0x8d ∷ 0x45 ∷ 0x00 ∷ [])
+base_r13 = refl
+
+base_rsp : canonical PROFILE (insns.Lea W64 0 (places.Mem (record { base = Some 4; index = None; scale = 1; disp = pos 0 }))) 0x1000 forms.Near ≡ Some (0x48 ∷ 0x8d ∷ 0x04 ∷ 0x24 ∷ [])
+base_rsp = refl
+
+base_r12 : canonical PROFILE (insns.Lea W64 0 (places.Mem (record { base = Some 12; index = None; scale = 1; disp = pos 0 }))) 0x1000 forms.Near ≡ Some (0x49 ∷ 0x8d ∷ 0x04 ∷ 0x24 ∷ [])
+base_r12 = refl
+
+no_base : canonical PROFILE (insns.Lea W64 0 (places.Mem (record { base = None; index = None; scale = 1; disp = pos 0x1000 }))) 0x1000 forms.Near ≡ Some (0x48 ∷ 0x8d ∷ 0x04 ∷ 0x25 ∷ 0x00 ∷ 0x10 ∷ 0x00 ∷ 0x00 ∷ [])
+no_base = refl
+
+index_alone : canonical PROFILE (insns.Lea W64 0 (places.Mem (record { base = None; index = Some 1; scale = 4; disp = pos 16 }))) 0x1000 forms.Near ≡ Some (0x48 ∷ 0x8d ∷ 0x04 ∷ 0x8d ∷ 0x10 ∷ 0x00 ∷ 0x00 ∷ 0x00 ∷ [])
+index_alone = refl
+
+base_and_index : canonical PROFILE (insns.Lea W64 0 (places.Mem (record { base = Some 13; index = Some 12; scale = 8; disp = negsuc 0 }))) 0x1000 forms.Near ≡ Some (0x4b ∷ 0x8d ∷ 0x44 ∷ 0xe5 ∷ 0xff ∷ [])
+base_and_index = refl
+
+-- one byte of displacement from -128 to 127
+displacement_minus_129 : canonical PROFILE (insns.Lea W64 0 (places.Mem (record { base = Some 1; index = None; scale = 1; disp = negsuc 128 }))) 0x1000 forms.Near ≡ Some (0x48 ∷ 0x8d ∷ 0x81 ∷ 0x7f ∷ 0xff ∷ 0xff ∷ 0xff ∷ [])
+displacement_minus_129 = refl
+
+displacement_minus_128 : canonical PROFILE (insns.Lea W64 0 (places.Mem (record { base = Some 1; index = None; scale = 1; disp = negsuc 127 }))) 0x1000 forms.Near ≡ Some (0x48 ∷ 0x8d ∷ 0x41 ∷ 0x80 ∷ [])
+displacement_minus_128 = refl
+
+displacement_127 : canonical PROFILE (insns.Lea W64 0 (places.Mem (record { base = Some 1; index = None; scale = 1; disp = pos 127 }))) 0x1000 forms.Near ≡ Some (0x48 ∷ 0x8d ∷ 0x41 ∷ 0x7f ∷ [])
+displacement_127 = refl
+
+displacement_128 : canonical PROFILE (insns.Lea W64 0 (places.Mem (record { base = Some 1; index = None; scale = 1; disp = pos 128 }))) 0x1000 forms.Near ≡ Some (0x48 ∷ 0x8d ∷ 0x81 ∷ 0x80 ∷ 0x00 ∷ 0x00 ∷ 0x00 ∷ [])
+displacement_128 = refl
+
+rip_relative : canonical PROFILE (insns.Lea W64 0 (places.At 0x2000)) 0x1000 forms.Near ≡ Some (0x48 ∷ 0x8d ∷ 0x05 ∷ 0xf9 ∷ 0x0f ∷ 0x00 ∷ 0x00 ∷ [])
+rip_relative = refl
+
+-- REX for SPL alone, none for AH
+one_to_spl : canonical PROFILE (insns.Mov W8 (places.Reg (regs.R 4)) (operands.Imm 1)) 0x1000 forms.Near ≡ Some (0x40 ∷ 0xb4 ∷ 0x01 ∷ [])
+one_to_spl = refl
+
+one_to_ah : canonical PROFILE (insns.Mov W8 (places.Reg (regs.High 0)) (operands.Imm 1)) 0x1000 forms.Near ≡ Some (0xb4 ∷ 0x01 ∷ [])
+one_to_ah = refl
+
+repeated_words : canonical PROFILE (insns.Movs W16 true) 0x1000 forms.Near ≡ Some (0x66 ∷ 0xf3 ∷ 0xa5 ∷ [])
+repeated_words = refl
+
+repeated_quads : canonical PROFILE (insns.Movs W64 true) 0x1000 forms.Near ≡ Some (0xf3 ∷ 0x48 ∷ 0xa5 ∷ [])
+repeated_quads = refl
+
+one_double : canonical PROFILE (insns.Movs W32 false) 0x1000 forms.Near ≡ Some (0xa5 ∷ [])
+one_double = refl
+
+-- memory at an absolute address
+rcx_to_scratch : canonical PROFILE (insns.Mov W64 (places.Mem (record { base = None; index = None; scale = 1; disp = pos 0x5000 })) (operands.Place (places.Reg (regs.R 1)))) 0x1000 forms.Near ≡ Some (0x48 ∷ 0x89 ∷ 0x0c ∷ 0x25 ∷ 0x00 ∷ 0x50 ∷ 0x00 ∷ 0x00 ∷ [])
+rcx_to_scratch = refl
+
+push_of_a_byte : canonical PROFILE (insns.Push (operands.Imm 0x7f)) 0x1000 forms.Near ≡ Some (0x6a ∷ 0x7f ∷ [])
+push_of_a_byte = refl
+
+push_of_four_bytes : canonical PROFILE (insns.Push (operands.Imm 0x80)) 0x1000 forms.Near ≡ Some (0x68 ∷ 0x80 ∷ 0x00 ∷ 0x00 ∷ 0x00 ∷ [])
+push_of_four_bytes = refl
+
+-- ---- of the lookup routine
+
+-- profile 1 has transfers that are looked up, its first part none
+profile_has_lookup : (has_lookup PROFILE ≡ true) × (has_lookup EARLY ≡ false)
+profile_has_lookup = (refl, refl)
+
+shift_right_once : canonical PROFILE (insns.Shift shifts.Shr W32 (places.Reg (regs.R 1)) (counts.Imm 1)) 0x1000 forms.Near ≡ Some (0xd1 ∷ 0xe9 ∷ [])
+shift_right_once = refl
+
+shift_right : canonical PROFILE (insns.Shift shifts.Shr W32 (places.Reg (regs.R 1)) (counts.Imm 5)) 0x1000 forms.Near ≡ Some (0xc1 ∷ 0xe9 ∷ 0x05 ∷ [])
+shift_right = refl
+
+sum_with_a_byte : canonical PROFILE (insns.Arith ariths.Add W64 (places.Reg (regs.R 1)) (operands.Imm 1)) 0x1000 forms.Near ≡ Some (0x48 ∷ 0x83 ∷ 0xc1 ∷ 0x01 ∷ [])
+sum_with_a_byte = refl
+
+compare_with_four_bytes : canonical PROFILE (insns.Arith ariths.Cmp W64 (places.Reg (regs.R 1)) (operands.Imm 0x1000)) 0x1000 forms.Near ≡ Some (0x48 ∷ 0x81 ∷ 0xf9 ∷ 0x00 ∷ 0x10 ∷ 0x00 ∷ 0x00 ∷ [])
+compare_with_four_bytes = refl
+
+jump_through_memory : canonical PROFILE (insns.JmpInd (places.Mem (record { base = None; index = None; scale = 1; disp = pos 0x5000 }))) 0x1000 forms.Near ≡ Some (0xff ∷ 0x24 ∷ 0x25 ∷ 0x00 ∷ 0x50 ∷ 0x00 ∷ 0x00 ∷ [])
+jump_through_memory = refl
 
 -- ---- each row once: plain fields can be had, and are found again from what they build
 

@@ -1,6 +1,7 @@
 ghost use Rattle.std.specs.Prelude.{◌≡◌, length, refl};
 ghost use Rattle.rz_isa.specs.Table.{OneRow, Lengths, OneCanonicalRow, CanonicalSpells};
 ghost use Rattle.rz_table.specs.declared.early_rows.TheConstants.{EARLY};
+ghost use Rattle.rz_table.specs.Listing.{early_rows};
 ghost use Rattle.rz_table.specs.Laws.EarlyEmits.{emits, emits_lookup};
 
 use crate::early_index::{
@@ -18,11 +19,13 @@ pub struct Early;
 impl InsnTable for Early {
     ghost rows = { EARLY };
 
-    /// How many rows there are. The clauses are the laws of the table: no bytes are spelled by
+    /// How many rows there are. The rows are those of the lines in `Listing`. The other clauses are
+    /// the laws of the table: no bytes are spelled by
     /// two rows, every spelling has 1 to 15 bytes, an instruction has one canonical row for each
     /// form that it has, and a canonical spelling names its instruction.
     fn count() -> usize
         ensures length { result ≡ length EARLY }
+        ensures listed { EARLY ≡ early_rows }
         ensures one_row { OneRow EARLY }
         ensures lengths { Lengths EARLY }
         ensures one_canonical_row { OneCanonicalRow EARLY }
@@ -52,6 +55,8 @@ impl InsnTable for Early {
     ghost exclude = { refl };
 
     ghost regular = { refl };
+
+    ghost suited = { refl };
 
     ghost emits = { emits };
 

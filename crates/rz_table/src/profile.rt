@@ -1,6 +1,7 @@
 ghost use Rattle.std.specs.Prelude.{◌≡◌, ◌<◌, length, slice_get, Some, refl};
 ghost use Rattle.rz_isa.specs.Table.{OneRow, Lengths, OneCanonicalRow, CanonicalSpells};
 ghost use Rattle.rz_table.specs.declared.profile_rows.TheConstants.{PROFILE};
+ghost use Rattle.rz_table.specs.Listing.{profile_rows};
 ghost use Rattle.rz_table.specs.Laws.ProfileEmits.{emits, emits_lookup};
 
 use crate::index::{cell, class_place, opcode_place};
@@ -25,11 +26,13 @@ pub fn pick(rows: &[Row], n: usize) -> Row
 impl InsnTable for Profile1 {
     ghost rows = { PROFILE };
 
-    /// How many rows there are. The clauses are the laws of the table: no bytes are spelled by
+    /// How many rows there are. The rows are those of the lines in `Listing`. The other clauses are
+    /// the laws of the table: no bytes are spelled by
     /// two rows, every spelling has 1 to 15 bytes, an instruction has one canonical row for each
     /// form that it has, and a canonical spelling names its instruction.
     fn count() -> usize
         ensures length { result ≡ length PROFILE }
+        ensures listed { PROFILE ≡ profile_rows }
         ensures one_row { OneRow PROFILE }
         ensures lengths { Lengths PROFILE }
         ensures one_canonical_row { OneCanonicalRow PROFILE }
@@ -63,6 +66,8 @@ impl InsnTable for Profile1 {
     ghost exclude = { refl };
 
     ghost regular = { refl };
+
+    ghost suited = { refl };
 
     ghost emits = { emits };
 

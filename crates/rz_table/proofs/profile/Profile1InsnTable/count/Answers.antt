@@ -12,3 +12,6 @@ returns-clause-one_canonical_row c = one_canonical_row PROFILE refl
 
 pub returns-clause-canonical_spells : goal.returns-clause-canonical_spells
 returns-clause-canonical_spells c = canonical_spells PROFILE refl
+
+pub returns-clause-listed : goal.returns-clause-listed
+returns-clause-listed c = refl

@@ -1,0 +1,111 @@
+// The header page of a written file.
+
+ghost use Rattle.std.specs.Prelude.{◌≡◌, ◌≤◌, ◌++◌, length, flat_map, OnOk};
+ghost use Rattle.byteorder.specs.Endian.{little_bytes};
+ghost use Rattle.rz_image.specs.Memory.{zeros};
+ghost use Rattle.rz_elf.specs.WrittenFile.{segment_bytes, header_bytes, header_page};
+
+use rz_elf::header::HEADER_SIZE;
+use rz_elf::segment::{SEGMENT_SIZE, Segment};
+use rz_num::OutOfMemory;
+
+/// The bytes of the header page.
+pub const PAGE: usize = 4096;
+
+// ELF, 64 bits, low byte first, version 1, System V; and the stamp of a written file.
+const IDENTITY: [u8; 16] = *b"\x7fELF\x02\x01\x01\0\0RZSTUB1";
+
+// ET_EXEC, EM_X86_64 and EV_CURRENT.
+const EXECUTABLE: u16 = 2;
+
+const X86_64: u16 = 62;
+
+const CURRENT: u32 = 1;
+
+// The bytes of a section header.
+const SECTION_SIZE: u16 = 64;
+
+/// Appends a page with the file header and the program headers.
+pub fn push_header_page(
+    out: &mut Vec<u8>,
+    segments: &[Segment],
+    entry: u64,
+) -> Result<(), OutOfMemory>
+    requires { length segments.now ≤ 64 }
+    ensures { OnOk result (out.new.items ≡ out.old.items ++ header_page segments.now entry) }
+{
+    let count = segments.len();
+    push_file_header(out, entry, count as u16)?;
+    for segment in segments {
+        push_segment(out, segment)?;
+    }
+    push_zeros(out, PAGE - (HEADER_SIZE + SEGMENT_SIZE * count))?;
+    Ok(())
+}
+
+// Appends the file header of an executable for x86-64 without sections.
+fn push_file_header(out: &mut Vec<u8>, entry: u64, count: u16) -> Result<(), OutOfMemory>
+    ensures { OnOk result (out.new.items ≡ out.old.items ++ header_bytes entry count) }
+{
+    out.extend_from_slice(&IDENTITY)?;
+    push_u16(out, EXECUTABLE)?;
+    push_u16(out, X86_64)?;
+    push_u32(out, CURRENT)?;
+    push_u64(out, entry)?;
+    push_u64(out, HEADER_SIZE as u64)?;
+    push_u64(out, 0)?;
+    push_u32(out, 0)?;
+    push_u16(out, HEADER_SIZE as u16)?;
+    push_u16(out, SEGMENT_SIZE as u16)?;
+    push_u16(out, count)?;
+    push_u16(out, SECTION_SIZE)?;
+    push_u16(out, 0)?;
+    push_u16(out, 0)?;
+    Ok(())
+}
+
+// Appends a program header.
+fn push_segment(out: &mut Vec<u8>, segment: &Segment) -> Result<(), OutOfMemory>
+    ensures { OnOk result (out.new.items ≡ out.old.items ++ segment_bytes segment.now) }
+{
+    push_u32(out, segment.kind)?;
+    push_u32(out, segment.flags)?;
+    push_u64(out, segment.offset)?;
+    push_u64(out, segment.vaddr)?;
+    push_u64(out, segment.paddr)?;
+    push_u64(out, segment.filesz)?;
+    push_u64(out, segment.memsz)?;
+    push_u64(out, segment.align)?;
+    Ok(())
+}
+
+/// Appends zeros, at most a page of them.
+pub fn push_zeros(out: &mut Vec<u8>, count: usize) -> Result<(), OutOfMemory>
+    requires { count ≤ 4096 }
+    ensures { OnOk result (out.new.items ≡ out.old.items ++ zeros count) }
+{
+    let len = out.len();
+    out.resize(len + count, 0)?;
+    Ok(())
+}
+
+fn push_u16(out: &mut Vec<u8>, value: u16) -> Result<(), OutOfMemory>
+    ensures { OnOk result (out.new.items ≡ out.old.items ++ little_bytes 2 value) }
+{
+    out.extend_from_slice(&value.to_le_bytes())?;
+    Ok(())
+}
+
+fn push_u32(out: &mut Vec<u8>, value: u32) -> Result<(), OutOfMemory>
+    ensures { OnOk result (out.new.items ≡ out.old.items ++ little_bytes 4 value) }
+{
+    out.extend_from_slice(&value.to_le_bytes())?;
+    Ok(())
+}
+
+fn push_u64(out: &mut Vec<u8>, value: u64) -> Result<(), OutOfMemory>
+    ensures { OnOk result (out.new.items ≡ out.old.items ++ little_bytes 8 value) }
+{
+    out.extend_from_slice(&value.to_le_bytes())?;
+    Ok(())
+}

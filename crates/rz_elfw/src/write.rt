@@ -1,0 +1,42 @@
+//! The written file.
+
+ghost use Rattle.std.specs.Prelude.{◌≡◌, IfOk, None};
+ghost use Rattle.rz_elf.specs.Elf.{fault_of, image_of};
+ghost use Rattle.rz_elf.specs.Room.{ArePages, IsInCode, extent_of, no_room, parts_end, parts_size};
+ghost use Rattle.rz_elf.specs.WrittenFile.{new_image, written_file};
+
+use crate::header_page::{PAGE, push_header_page, push_zeros};
+use crate::parts::Parts;
+use crate::segments::new_segments;
+use rz_elf::elf::Elf;
+use rz_num::{Bytes, OutOfMemory, page_up};
+use std::alloc::Global;
+
+/// The written file of an original with the added parts and an entry: a header page of 4096 bytes, the original whole,
+/// zeros up to a page, and the bytes of the tables, the code and the stubs. It is an accepted file again. What it loads
+/// are the original's loads, none of them executable, and the four added ones. It refuses for want of memory alone.
+pub fn write_elf(alloc: Global, elf: &Elf, parts: &Parts, entry: u64) -> Result<Bytes, OutOfMemory>
+    requires pages { ArePages parts.now }
+    requires below { parts_end parts.now ≡ (extent_of elf.now.bytes).floor }
+    requires entry { IsInCode parts.now entry }
+    requires room { no_room (extent_of elf.now.bytes) (parts_size parts.now) ≡ None }
+    ensures file { IfOk result (λ w. w ≡ written_file elf.now.bytes parts.now entry) }
+    ensures accepted { IfOk result (λ w. fault_of w ≡ None) }
+    ensures image { IfOk result (λ w. image_of w ≡ new_image (image_of elf.now.bytes) parts.now entry) }
+{
+    let file = elf.bytes.as_slice();
+    let segments = new_segments(alloc, elf, parts)?;
+    let filler = page_up(file.len() as u64) as usize - file.len();
+    let tables = parts.tables.as_slice();
+    let code = parts.code.as_slice();
+    let stubs = parts.stubs.as_slice();
+    let size = PAGE + file.len() + filler + tables.len() + code.len() + stubs.len();
+    let mut out = Vec::with_capacity(alloc, size)?;
+    push_header_page(&mut out, segments.as_slice(), entry)?;
+    out.extend_from_slice(file)?;
+    push_zeros(&mut out, filler)?;
+    out.extend_from_slice(tables)?;
+    out.extend_from_slice(code)?;
+    out.extend_from_slice(stubs)?;
+    Ok(Bytes::from_vec(out))
+}

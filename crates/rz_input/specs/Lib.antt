@@ -1,0 +1,5 @@
+pub mod Calls
+pub mod Fault
+pub mod Grammar
+pub mod Printed
+pub mod Value

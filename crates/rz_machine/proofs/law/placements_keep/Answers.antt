@@ -1,0 +1,5 @@
+use Rattle.rz_machine.proofs.PlacedRuns.{placements_keep}
+use Rattle.rz_machine.proofs.law.placements_keep.Goals as goal
+
+pub returns : goal.returns
+returns g c = placements_keep g.T.InsnTable.decoder

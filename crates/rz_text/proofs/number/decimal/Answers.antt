@@ -1,0 +1,6 @@
+use Rattle.std.proofs.Common.{sym}
+use Rattle.rz_text.proofs.NumberLaws.{decimal_digits}
+use Rattle.rz_text.proofs.number.decimal.Goals as goal
+
+pub value-requires-clause-digits : goal.value-requires-clause-digits
+value-requires-clause-digits c = decimal_digits _ (sym c.in-None.ensures)
