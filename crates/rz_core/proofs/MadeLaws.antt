@@ -8,7 +8,6 @@ use Rattle.rz_sys.specs.declared.input.Input.{Input}
 use Rattle.rz_machine.specs.Kept.{Kept, sorted, sorted_edges}
 use Rattle.rz_image.specs.Memory.{NoSelfWritten}
 use Rattle.rz_elf.specs.Elf.{fault_of, image_of, Image}
-use Rattle.rz_machine.specs.Insn.{Decoder}
 use Rattle.rz_machine.specs.First.{decode_first}
 use Rattle.rz_elf.specs.Loaded.{loaded}
 use Rattle.rz_rewrite.specs.ThinElf.{thin_elf}
