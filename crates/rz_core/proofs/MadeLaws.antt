@@ -8,7 +8,6 @@ use Rattle.rz_sys.specs.declared.input.Input.{Input}
 use Rattle.rz_machine.specs.Kept.{Kept, sorted, sorted_edges}
 use Rattle.rz_image.specs.Memory.{NoSelfWritten}
 use Rattle.rz_elf.specs.Elf.{fault_of, image_of, Image}
-use Rattle.rz_machine.specs.Insn.{Decoder}
 use Rattle.rz_machine.specs.First.{decode_first}
 use Rattle.rz_elf.specs.Loaded.{loaded}
 use Rattle.rz_rewrite.specs.ThinElf.{thin_elf}
@@ -28,7 +27,7 @@ use Rattle.rz_image.proofs.Cells.{IsFixed, all_map, none_self_written}
 use Rattle.rz_elf.proofs.PlainAccepted.{accepted_plain}
 use Rattle.rz_core.specs.Texts.{report_text}
 use Rattle.rz_core.specs.Debloated.{traced, kept_of, IsDebloated, report_of}
-use Rattle.rz_core.specs.Making.{IsOfThin}
+use Rattle.rz_core.specs.Making.{IsOfThin, plain_report}
 
 -- each item of a list of bytes is one
 pub each_byte : (xs : List ℕ) → ((i : ℕ) → slice_index xs i < 256) → AllByRecursion (λ b. b < 256) xs
@@ -60,7 +59,7 @@ nothing = record { nodes = []; edges = [] }
 
 -- the report names no sites
 pub report_is : (elf : Elf) (limit : ℕ) (input : Input) (kept : Kept) (report : List ℕ) → IsOfThin elf → kept ≡ kept_of limit elf.bytes (input ∷ [])
-    → report ≡ report_text (added decode_first (loaded elf) kept).scratch (length kept.edges) (length kept.nodes) 0 0
+    → report ≡ plain_report (loaded elf) kept
     → report ≡ report_of limit elf.bytes (input ∷ [])
 report_is elf limit input kept report h same e =
     let m : Code = code_in (image_of elf.bytes).loads in

@@ -12,9 +12,15 @@ words_of d = record { exe = d.exe.now; limit = d.limit; out = d.out.now; inputs 
 abbrev pub check_words_of : HeldCheck → Check
 check_words_of c = record { exe = c.exe.now }
 
+abbrev pub debloating : HeldDebloat → Form
+debloating d = Debloating (words_of d)
+
+abbrev pub checking : HeldCheck → Form
+checking c = Checking (check_words_of c)
+
 abbrev pub form_words_of : HeldForm → Form
-form_words_of (held.Debloat d) = Debloating (words_of d)
-form_words_of (held.Check c) = Checking (check_words_of c)
+form_words_of (held.Debloat d) = debloating d
+form_words_of (held.Check c) = checking c
 
 -- a run of a form has at least one step
 abbrev pub HasSteps : HeldForm → Type 0

@@ -1,10 +1,10 @@
 -- What is made of a file and an input, and when it is refused.
-use Rattle.std.specs.Prelude.{◌≡◌, ◌⊎◌, ◌<◌, ℕ, IsTrue, List, take, Some, None}
+use Rattle.std.specs.Prelude.{◌≡◌, ◌⊎◌, ◌<◌, ℕ, IsTrue, List, length, take, Some, None}
 use Rattle.std.specs.List.{AllByRecursion}
 use Rattle.rz_outside.specs.Counts.{Rose}
 use Rattle.rz_outside.specs.StoreCalls.{StoreCalls}
 use Rattle.rz_elf.specs.declared.elf.Elf.{Elf}
-use Rattle.rz_elf.specs.Elf.{fault_of, image_of}
+use Rattle.rz_elf.specs.Elf.{Image, fault_of, image_of}
 use Rattle.rz_sys.specs.declared.input.Input.{Input}
 use Rattle.rz_machine.specs.First.{decode_first}
 use Rattle.rz_machine.specs.LeftCode.{LeavesCode}
@@ -19,6 +19,9 @@ use Rattle.rz_core.specs.declared.status.Status.TheVariants as status
 use Rattle.rz_core.specs.declared.status.Target.TheVariants as target
 use Rattle.rz_core.specs.Words.{Debloat, Form, Debloating}
 use Rattle.rz_core.specs.Reading.{Course, wanted_by}
+use Rattle.rz_machine.specs.Kept.{Kept}
+use Rattle.rz_machine.specs.Added.{added}
+use Rattle.rz_core.specs.Texts.{report_text}
 use Rattle.rz_core.specs.Debloated.{traced, report_of}
 use Rattle.rz_core.specs.Causes.{IsNew, LastRefusal, LeftCodeOf}
 
@@ -33,6 +36,10 @@ pub record IsOfThin (elf : Elf) : Type 0 where
 abbrev pub MakeRefused : ℕ → List ℕ → Input → MakeRefusal → Type 0
 MakeRefused limit x input (make.LeftCode a) = LeavesCode decode_first limit (traced x input) a
 MakeRefused limit x input make.OutOfMemory = Unit {0}
+
+-- the report of a kept set without sites
+abbrev pub plain_report : Image → Kept → List ℕ
+plain_report x kept = report_text (added decode_first x kept).scratch (length kept.edges) (length kept.nodes) 0 0
 
 -- what is made of the files that a command reads
 pub record IsMade (d : Debloat) (Holds : List ℕ → List ℕ → Type 0) (m : Made) : Type 0 where

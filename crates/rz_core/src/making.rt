@@ -1,9 +1,8 @@
 //! From a file to its new file: the trace, the new parts, the written file and the report.
 
-ghost use Rattle.std.specs.Prelude.{◌≡◌, ◌≤◌, [], ◌∷◌, length, IfOk, IfErr, OnOk};
+ghost use Rattle.std.specs.Prelude.{◌≡◌, ◌≤◌, [], ◌∷◌, IfOk, IfErr, OnOk};
 ghost use Rattle.rz_elf.specs.Loaded.{loaded};
 ghost use Rattle.rz_machine.specs.First.{decode_first};
-ghost use Rattle.rz_machine.specs.Added.{added};
 ghost use Rattle.rz_machine.specs.Keeps.{Keeps};
 ghost use Rattle.rz_machine.specs.LeftCode.{StaysInCode};
 ghost use Rattle.rz_machine.specs.Recorded.{IsUncut};
@@ -12,7 +11,7 @@ ghost use Rattle.rz_machine.specs.Traced.{kept_in};
 ghost use Rattle.rz_sys.specs.Input.{IsEmptyInput};
 ghost use Rattle.rz_machine.specs.WrittenFile.{Inert};
 ghost use Rattle.rz_core.specs.Debloated.{IsDebloated, kept_of, traced, report_of};
-ghost use Rattle.rz_core.specs.Making.{IsOfThin, MakeRefused};
+ghost use Rattle.rz_core.specs.Making.{IsOfThin, MakeRefused, plain_report};
 ghost use Rattle.rz_core.specs.Texts.{report_text};
 
 use crate::texts;
@@ -81,9 +80,7 @@ fn write_new(alloc: Global, elf: &Elf, kept: &Record) -> Result<Made, OutOfMemor
     requires plausible { CanRewrite decode_first (loaded elf.now) (kept_in kept.now) }
     ensures keeps { IfOk result (λ m. Keeps decode_first elf.now.bytes m.bytes (kept_in kept.now)) }
     ensures inert { IfOk result (λ m. Inert decode_first elf.now.bytes m.bytes (kept_in kept.now)) }
-    ensures report { IfOk result (λ m. m.report ≡
-        report_text (added decode_first (loaded elf.now) (kept_in kept.now)).scratch
-        (length kept.now.edges) (length kept.now.nodes) 0 0) }
+    ensures report { IfOk result (λ m. m.report ≡ plain_report (loaded elf.now) (kept_in kept.now)) }
 {
     let New { bytes, base } = rewrite(alloc, elf, kept)?;
     let edges = kept.edges.len() as u64;

@@ -1,15 +1,14 @@
 //! The top call: a command line over a store of files and a sink of text.
 
-ghost use Rattle.std.specs.Prelude.{◌≡◌, ◌≤◌, ◌↔◌, IsSome, Some};
-ghost use Rattle.rz_outside.specs.StoreAnswers.{SameFiles};
+ghost use Rattle.std.specs.Prelude.{◌≡◌, ◌≤◌, ◌↔◌, IsSome};
 ghost use Rattle.rz_outside.specs.StoreCalls.{store_calls};
 ghost use Rattle.rz_outside.specs.SinkCalls.{sink_calls};
-ghost use Rattle.rz_core.specs.Words.{Debloating, Checking};
-ghost use Rattle.rz_core.specs.Commands.{words_of, check_words_of};
-ghost use Rattle.rz_core.specs.Causes.{CauseOf, HasCause, FilesAfterDebloat, FilesAfter, SinkAfterForm, SinkAfter};
+ghost use Rattle.rz_core.specs.Commands.{debloating, checking};
+ghost use Rattle.rz_core.specs.Causes.{HasCause, FilesAfter, SinkAfter};
 ghost use Rattle.rz_core.specs.Exact.{IsExact};
 ghost use Rattle.rz_core.specs.Headline.{Headline};
 ghost use Rattle.rz_core.specs.Putting.{PutAfter, RefusedAfter};
+ghost use Rattle.rz_core.specs.Runs.{Runs};
 
 use crate::check::check;
 use crate::debloat::debloat;
@@ -66,10 +65,7 @@ fn run_debloat<S: Store, K: Sink>(
     ensures store_count { S.faults store.old ≤ S.faults store.new }
     ensures sink_telling { IsSome (K.written out.new) ↔ IsSome (K.written out.old) }
     ensures sink_count { K.faults out.old ≤ K.faults out.new }
-    ensures cause { CauseOf (Some (Debloating (words_of d.now)))
-        (store_calls S.Store store.old store.new) (sink_calls K.Sink out.old out.new) result }
-    ensures files { FilesAfterDebloat (words_of d.now) (store_calls S.Store store.old store.new) result }
-    ensures sink { SinkAfterForm (Some (Debloating (words_of d.now)))
+    ensures run { Runs (debloating d.now)
         (store_calls S.Store store.old store.new) (sink_calls K.Sink out.old out.new) result }
 {
     match debloat(alloc, d, store) {
@@ -84,10 +80,7 @@ fn run_check<S: Store, K: Sink>(alloc: Global, c: &Check<'_>, store: &mut S, out
     ensures store_count { S.faults store.old ≤ S.faults store.new }
     ensures sink_telling { IsSome (K.written out.new) ↔ IsSome (K.written out.old) }
     ensures sink_count { K.faults out.old ≤ K.faults out.new }
-    ensures cause { CauseOf (Some (Checking (check_words_of c.now)))
-        (store_calls S.Store store.old store.new) (sink_calls K.Sink out.old out.new) result }
-    ensures files { SameFiles (S.files store.old) (S.files store.new) }
-    ensures sink { SinkAfterForm (Some (Checking (check_words_of c.now)))
+    ensures run { Runs (checking c.now)
         (store_calls S.Store store.old store.new) (sink_calls K.Sink out.old out.new) result }
 {
     match check(alloc, c, store) {

@@ -1,9 +1,8 @@
 use Rattle.std.proofs.Common.{ap, subst, sym, ◌∙◌, Some}
 use Rattle.rz_outside.specs.StoreCalls.{StoreCalls, store_calls}
 use Rattle.rz_outside.specs.SinkCalls.{SinkCalls, sink_calls}
-use Rattle.rz_core.specs.Words.{Debloating, Checking}
-use Rattle.rz_core.specs.Commands.{words_of, check_words_of, form_words_of}
-use Rattle.rz_core.specs.Causes.{CauseOf, SinkAfterForm}
+use Rattle.rz_core.specs.Commands.{debloating, checking, form_words_of}
+use Rattle.rz_core.specs.Causes.{CauseOf, FilesAfterForm, SinkAfterForm}
 use Rattle.rz_core.specs.Exact.{IsExactOf}
 use Rattle.rz_core.specs.Headline.{HeadlineOf}
 use Rattle.rz_core.proofs.ExactLaws.{exactly, headline}
@@ -14,53 +13,76 @@ returns-in-Some-Debloat-clause-headline g c =
     let s : StoreCalls = store_calls g.S.Store c.args.store.now c.run_debloat.new.store in
     let k : SinkCalls = sink_calls g.K.Sink c.args.out.now c.run_debloat.new.out in
     let answer = c.run_debloat.result in
+    let run = c.run_debloat.ensures.run in
     let is = c.in-Some-Debloat.ensures.form ∙ ap (λ f. Some (form_words_of f)) c.in-Some-Debloat.field-0-is in
-    subst (λ f. HeadlineOf f s answer) (sym is) (headline (Debloating (words_of c.in-Some-Debloat.d)) s k answer c.run_debloat.ensures.cause)
+    subst (λ f. HeadlineOf f s answer) (sym is) (headline (debloating c.in-Some-Debloat.d) s k answer run.cause)
 
 pub returns-in-Some-Debloat-clause-cause : goal.returns-in-Some-Debloat-clause-cause
 returns-in-Some-Debloat-clause-cause g c =
     let s : StoreCalls = store_calls g.S.Store c.args.store.now c.run_debloat.new.store in
     let k : SinkCalls = sink_calls g.K.Sink c.args.out.now c.run_debloat.new.out in
     let answer = c.run_debloat.result in
+    let run = c.run_debloat.ensures.run in
     let is = c.in-Some-Debloat.ensures.form ∙ ap (λ f. Some (form_words_of f)) c.in-Some-Debloat.field-0-is in
-    subst (λ f. CauseOf f s k answer) (sym is) c.run_debloat.ensures.cause
+    subst (λ f. CauseOf f s k answer) (sym is) run.cause
 
 pub returns-in-Some-Debloat-clause-exact : goal.returns-in-Some-Debloat-clause-exact
 returns-in-Some-Debloat-clause-exact g c =
     let s : StoreCalls = store_calls g.S.Store c.args.store.now c.run_debloat.new.store in
     let k : SinkCalls = sink_calls g.K.Sink c.args.out.now c.run_debloat.new.out in
     let answer = c.run_debloat.result in
+    let run = c.run_debloat.ensures.run in
     let is = c.in-Some-Debloat.ensures.form ∙ ap (λ f. Some (form_words_of f)) c.in-Some-Debloat.field-0-is in
-    subst (λ f. IsExactOf f s k answer) (sym is) (exactly (Debloating (words_of c.in-Some-Debloat.d)) s k answer c.run_debloat.ensures.cause)
+    subst (λ f. IsExactOf f s k answer) (sym is) (exactly (debloating c.in-Some-Debloat.d) s k answer run.cause)
+
+pub returns-in-Some-Debloat-clause-files : goal.returns-in-Some-Debloat-clause-files
+returns-in-Some-Debloat-clause-files g c =
+    let s : StoreCalls = store_calls g.S.Store c.args.store.now c.run_debloat.new.store in
+    let answer = c.run_debloat.result in
+    let run = c.run_debloat.ensures.run in
+    let is = c.in-Some-Debloat.ensures.form ∙ ap (λ f. Some (form_words_of f)) c.in-Some-Debloat.field-0-is in
+    subst (λ f. FilesAfterForm f s answer) (sym is) run.files
 
 pub returns-in-Some-Debloat-clause-sink : goal.returns-in-Some-Debloat-clause-sink
 returns-in-Some-Debloat-clause-sink g c =
     let s : StoreCalls = store_calls g.S.Store c.args.store.now c.run_debloat.new.store in
     let k : SinkCalls = sink_calls g.K.Sink c.args.out.now c.run_debloat.new.out in
     let answer = c.run_debloat.result in
+    let run = c.run_debloat.ensures.run in
     let is = c.in-Some-Debloat.ensures.form ∙ ap (λ f. Some (form_words_of f)) c.in-Some-Debloat.field-0-is in
-    subst (λ f. SinkAfterForm f s k answer) (sym is) c.run_debloat.ensures.sink
+    subst (λ f. SinkAfterForm f s k answer) (sym is) run.sink
 
 pub returns-in-Some-Check-clause-cause : goal.returns-in-Some-Check-clause-cause
 returns-in-Some-Check-clause-cause g c =
     let s : StoreCalls = store_calls g.S.Store c.args.store.now c.run_check.new.store in
     let k : SinkCalls = sink_calls g.K.Sink c.args.out.now c.run_check.new.out in
     let answer = c.run_check.result in
+    let run = c.run_check.ensures.run in
     let is = c.in-Some-Check.ensures.form ∙ ap (λ f. Some (form_words_of f)) c.in-Some-Check.field-0-is in
-    subst (λ f. CauseOf f s k answer) (sym is) c.run_check.ensures.cause
+    subst (λ f. CauseOf f s k answer) (sym is) run.cause
 
 pub returns-in-Some-Check-clause-exact : goal.returns-in-Some-Check-clause-exact
 returns-in-Some-Check-clause-exact g c =
     let s : StoreCalls = store_calls g.S.Store c.args.store.now c.run_check.new.store in
     let k : SinkCalls = sink_calls g.K.Sink c.args.out.now c.run_check.new.out in
     let answer = c.run_check.result in
+    let run = c.run_check.ensures.run in
     let is = c.in-Some-Check.ensures.form ∙ ap (λ f. Some (form_words_of f)) c.in-Some-Check.field-0-is in
-    subst (λ f. IsExactOf f s k answer) (sym is) (exactly (Checking (check_words_of c.in-Some-Check.c)) s k answer c.run_check.ensures.cause)
+    subst (λ f. IsExactOf f s k answer) (sym is) (exactly (checking c.in-Some-Check.c) s k answer run.cause)
+
+pub returns-in-Some-Check-clause-files : goal.returns-in-Some-Check-clause-files
+returns-in-Some-Check-clause-files g c =
+    let s : StoreCalls = store_calls g.S.Store c.args.store.now c.run_check.new.store in
+    let answer = c.run_check.result in
+    let run = c.run_check.ensures.run in
+    let is = c.in-Some-Check.ensures.form ∙ ap (λ f. Some (form_words_of f)) c.in-Some-Check.field-0-is in
+    subst (λ f. FilesAfterForm f s answer) (sym is) run.files
 
 pub returns-in-Some-Check-clause-sink : goal.returns-in-Some-Check-clause-sink
 returns-in-Some-Check-clause-sink g c =
     let s : StoreCalls = store_calls g.S.Store c.args.store.now c.run_check.new.store in
     let k : SinkCalls = sink_calls g.K.Sink c.args.out.now c.run_check.new.out in
     let answer = c.run_check.result in
+    let run = c.run_check.ensures.run in
     let is = c.in-Some-Check.ensures.form ∙ ap (λ f. Some (form_words_of f)) c.in-Some-Check.field-0-is in
-    subst (λ f. SinkAfterForm f s k answer) (sym is) c.run_check.ensures.sink
+    subst (λ f. SinkAfterForm f s k answer) (sym is) run.sink
