@@ -1,6 +1,5 @@
 -- Lines of four words.
-use Rattle.std.proofs.Common.{◌≡◌, ℕ, ◌<◌, List, [], ◌∷◌, length, ◌≢◌, Option, Some, None, slice_get, refl, arith}
-use Rattle.rz_classes.specs.declared.listed.Function.{Function}
+use Rattle.std.proofs.Common.{◌≡◌, ℕ, List, [], ◌∷◌, length, ◌≢◌, Some, None, slice_get, refl}
 use Rattle.rz_classes.specs.Grammar.{function_of, function_of_words}
 
 -- a line of more or fewer words lists nothing

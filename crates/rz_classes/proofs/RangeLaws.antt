@@ -1,6 +1,6 @@
 -- Ranges that are apart, and the function with the greatest start below an address.
-use Rattle.std.proofs.Common.{◌≡◌, ℕ, suc, ◌+◌, ◌<◌, ◌≤◌, ◌&&◌, ◌==◌, ◌++◌, ◌^◌, [], ◌∷◌, length-append, cond, Bool, true, false, List, length, get_or, nat_lt, Ordering, Less, Equal, Greater, Option, Some, None, refl, sym, ap, ◌∙◌, inl, inr, arith}
-use Rattle.std.specs.Prelude.{position, All, AllPairs}
+use Rattle.std.proofs.Common.{◌≡◌, ℕ, ◌+◌, ◌<◌, ◌≤◌, ◌&&◌, ◌==◌, ◌++◌, ◌^◌, [], ◌∷◌, length-append, cond, Bool, true, false, List, length, get_or, nat_lt, Less, Some, None, refl, sym, ap, ◌∙◌, inl, inr, arith}
+use Rattle.std.specs.Prelude.{position}
 use Rattle.std.specs.Option.{IsSome}
 use Rattle.std.specs.BTreeMap.{BTreeMap, Updates, is_at}
 use Rattle.std.specs.Ordering.{nat_cmp, is_lt}
@@ -42,9 +42,9 @@ false_from false h = refl
 -- what doesn't meet lies before or behind
 apart_from : (f g : Function) → meets f g ≡ false → f.lo < g.hi → f.hi ≤ g.lo
 apart_from f g h before = elim (cases_lt g.lo f.hi) [
-    | inl inside ↦ absurd (false≢true (sym h ∙ both f.lo g.hi g.lo f.hi before inside))
-    | inr behind ↦ behind
-  ]
+  | inl inside ↦ absurd (false≢true (sym h ∙ both f.lo g.hi g.lo f.hi before inside))
+  | inr behind ↦ behind
+]
 
 meets-swap : (f g : Function) → meets f g ≡ meets g f
 meets-swap f g = and_comm (nat_lt f.lo g.hi) (nat_lt g.lo f.hi)
@@ -56,21 +56,21 @@ one_before fs apart i j d at_i at_j above =
     elim (cases_lt i j) [
       | inl before ↦ apart_from (get_or fs i d) (get_or fs j d) (apart.apart i j d before at_j) (omega arith)
       | inr other ↦ elim (cases_lt j i) [
-          | inl behind ↦ apart_from (get_or fs i d) (get_or fs j d) (meets-swap (get_or fs i d) (get_or fs j d) ∙ apart.apart j i d behind at_i) (omega arith)
-          | inr same ↦
-              let e : i ≡ j = omega arith in
-              let hi : (get_or fs i d).hi ≡ (get_or fs j d).hi = ap (λ (k : ℕ). (get_or fs k d).hi) e in
-              absurd (omega arith)
-        ]
+        | inl behind ↦ apart_from (get_or fs i d) (get_or fs j d) (meets-swap (get_or fs i d) (get_or fs j d) ∙ apart.apart j i d behind at_i) (omega arith)
+        | inr same ↦
+            let e : i ≡ j = omega arith in
+            let hi : (get_or fs i d).hi ≡ (get_or fs j d).hi = ap (λ (k : ℕ). (get_or fs k d).hi) e in
+            absurd (omega arith)
+      ]
     ]
 
 -- where nothing starts below the end of a range, nothing meets it
 pub meets_range-none : (fs : List Function) (lo hi : ℕ) (d : Function) → ((q : ℕ) → q < hi → position (starts_at q) fs ≡ None) → list_any (meets_range lo hi) fs ≡ false
 meets_range-none fs lo hi d none = list_any_none (meets_range lo hi) fs (All-from_get_or (λ (f : Function). meets_range lo hi f ≡ false) fs d (λ i below.
     false_from (meets_range lo hi (get_or fs i d)) (λ h.
-        let at = parts lo (get_or fs i d).hi (get_or fs i d).lo hi h in
-        let some = found fs i d below in
-        false≢true (rw (none (get_or fs i d).lo at.1) at some))))
+    let at = parts lo (get_or fs i d).hi (get_or fs i d).lo hi h in
+    let some = found fs i d below in
+    false≢true (rw (none (get_or fs i d).lo at.1) at some))))
 
 -- else the function with the greatest such start decides
 pub meets_range-last : (fs : List Function) (lo hi k v : ℕ) (d : Function) → AreApart fs → position (starts_at k) fs ≡ Some v → k < hi
@@ -87,11 +87,11 @@ meets_range-last fs lo hi k v d apart at below greatest =
       | inr behind ↦
           let left : nat_lt lo (get_or fs v d).hi ≡ false = grind arith in
           left ∙ sym (list_any_none (meets_range lo hi) fs (All-from_get_or (λ (f : Function). meets_range lo hi f ≡ false) fs d (λ i within.
-              false_from (meets_range lo hi (get_or fs i d)) (λ h.
-                  let in_range = parts lo (get_or fs i d).hi (get_or fs i d).lo hi h in
-                  let least = greatest (get_or fs i d).lo in_range.1 (found fs i d within) in
-                  let before = one_before fs apart v i d place.0 within (omega arith) in
-                  omega arith))))
+          false_from (meets_range lo hi (get_or fs i d)) (λ h.
+          let in_range = parts lo (get_or fs i d).hi (get_or fs i d).lo hi h in
+          let least = greatest (get_or fs i d).lo in_range.1 (found fs i d within) in
+          let before = one_before fs apart v i d place.0 within (omega arith) in
+          omega arith))))
     ]
 
 -- the order of numbers
@@ -114,10 +114,10 @@ each_apart fs f none k d below =
 position-new : (fs : List Function) (f : Function) → AreApart fs → f.lo < f.hi → list_any (meets f) fs ≡ false → position (starts_at f.lo) fs ≡ None
 position-new fs f apart ordered none = position-absent (starts_at f.lo) fs no_function (λ k below.
     false_from (starts_at f.lo (get_or fs k no_function)) (λ h.
-        let same : (get_or fs k no_function).lo ≡ f.lo = eqb-true (get_or fs k no_function).lo f.lo h in
-        let inside : (get_or fs k no_function).lo < (get_or fs k no_function).hi = All-get_or (λ (g : Function). g.lo < g.hi) fs k no_function below apart.ordered in
-        let yes = both f.lo (get_or fs k no_function).hi (get_or fs k no_function).lo f.hi (omega arith) (omega arith) in
-        false≢true (sym (each_apart fs f none k no_function below) ∙ yes)))
+    let same : (get_or fs k no_function).lo ≡ f.lo = eqb-true (get_or fs k no_function).lo f.lo h in
+    let inside : (get_or fs k no_function).lo < (get_or fs k no_function).hi = All-get_or (λ (g : Function). g.lo < g.hi) fs k no_function below apart.ordered in
+    let yes = both f.lo (get_or fs k no_function).hi (get_or fs k no_function).lo f.hi (omega arith) (omega arith) in
+    false≢true (sym (each_apart fs f none k no_function below) ∙ yes)))
 
 -- the places of the functions with one more
 position-more : (fs : List Function) (f : Function) (a : ℕ) (b : Bool) → (f.lo == a) ≡ b → AreApart fs → f.lo < f.hi → list_any (meets f) fs ≡ false
@@ -143,6 +143,6 @@ IsIndexed-more fs f m n index ordered none few updates = record {
   ranges = AreApart-more fs f index.ranges ordered none;
   few = simp length-append few;
   places = λ a.
-    let more = position-more fs f a (f.lo == a) refl index.ranges ordered none in
-    updates.0 a ∙ rw (is_at-nat_cmp f.lo a, index.places a) (sym more);
+      let more = position-more fs f a (f.lo == a) refl index.ranges ordered none in
+      updates.0 a ∙ rw (is_at-nat_cmp f.lo a, index.places a) (sym more);
 }

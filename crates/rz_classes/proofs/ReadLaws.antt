@@ -1,16 +1,14 @@
 -- Reading a class text line by line.
-use Rattle.std.proofs.Common.{◌≡◌, ℕ, ◌+◌, ◌^◌, ◌<◌, ◌≤◌, ◌++◌, Bool, true, false, List, [], ◌∷◌, length, length-append, nat_lt, Option, Some, None, refl, sym, ap, ◌∙◌, append-nil, arith}
-use Rattle.std.specs.List.{filter_map, cons_option}
+use Rattle.std.proofs.Common.{◌≡◌, ℕ, ◌+◌, ◌≤◌, ◌++◌, true, List, [], ◌∷◌, length, length-append, Option, Some, None, refl, sym, ap, ◌∙◌, arith}
+use Rattle.std.specs.List.{cons_option}
 use Rattle.std.specs.Option.{option_to_list}
 use Rattle.std.proofs.lemmas.List.Elements.{filter_map-append}
-use Rattle.rz_text.specs.Lines.{Line, content, has_content, lines_from, words}
-use Rattle.rz_text.specs.Fault.{line_fault}
+use Rattle.rz_text.specs.Lines.{Line, has_content, lines_from, words}
 use Rattle.rz_text.proofs.LineLaws.{length-lines_from}
-use Rattle.rz_text.proofs.Reading.{IsRead, IsRead-start, IsRead-pass, IsRead-more, IsRead-fault, IsRead-end}
+use Rattle.rz_text.proofs.Reading.{IsRead, IsRead-start, IsRead-more}
 use Rattle.rz_classes.specs.declared.listed.Function.{Function}
-use Rattle.rz_classes.specs.declared.error.ClassError.{ClassError}
 use Rattle.rz_classes.specs.Grammar.{function_of}
-use Rattle.rz_classes.specs.Fault.{fault_behind, fault_of, fault_of_line, functions, functions_of}
+use Rattle.rz_classes.specs.Fault.{fault_behind, fault_of_line, functions}
 
 -- the lines before the rest have no fault, and list these functions
 pub record IsListed (text : List ℕ) (listed : List Function) (rest : List Line) : Type 0 where
@@ -25,15 +23,6 @@ IsListed-start text short = record {
   read = IsRead-start fault_of_line text;
   value = refl;
   few = let most = length-lines_from 1 text in omega arith;
-}
-
-pub IsListed-pass : (text : List ℕ) (listed : List Function) (line : Line) (rest : List Line)
-    → IsListed text listed (line ∷ rest) → has_content line.1 ≡ false → IsListed text listed rest
-IsListed-pass text listed line rest so_far h = record {
-  earlier = so_far.earlier;
-  read = IsRead-pass fault_of_line text so_far.earlier line rest so_far.read h;
-  value = so_far.value;
-  few = let few = so_far.few in omega arith;
 }
 
 listed-length : (o : Option Function) → length (option_to_list o) ≤ 1
@@ -57,23 +46,7 @@ IsListed-more text listed new line rest so_far h sound e = record {
   read = IsRead-more fault_of_line text so_far.earlier line rest so_far.read h (rw (← so_far.value) sound);
   value = e ∙ rw so_far.value (sym (functions-more so_far.earlier line));
   few =
-    let few = so_far.few in
-    let one = listed-length (function_of (words line.1)) in
-    rw e (simp length-append (omega (arith, few, one)));
+      let few = so_far.few in
+      let one = listed-length (function_of (words line.1)) in
+      rw e (simp length-append (omega (arith, few, one)));
 }
-
--- the text is at its end
-pub IsListed-end : (text : List ℕ) (listed : List Function) → length text ≤ 16777216 → IsListed text listed []
-    → (fault_of text ≡ None) × (listed ≡ functions_of text)
-IsListed-end text listed short so_far =
-    let end = IsRead-end fault_of_line text so_far.earlier so_far.read in
-    let test : nat_lt 16777216 (length text) ≡ false = grind arith in
-    (rw test end.1, so_far.value ∙ ap functions (sym end.0))
-
--- the line has a fault
-pub IsListed-fault : (text : List ℕ) (listed : List Function) (line : Line) (rest : List Line) (e : ClassError) → length text ≤ 16777216
-    → IsListed text listed (line ∷ rest) → has_content line.1 ≡ true → fault_behind listed line.0 (function_of (words line.1)) ≡ Some e
-    → fault_of text ≡ Some e
-IsListed-fault text listed line rest e short so_far h some =
-    let test : nat_lt 16777216 (length text) ≡ false = grind arith in
-    rw test (IsRead-fault fault_of_line text so_far.earlier line rest e so_far.read h (rw (← so_far.value) some))

@@ -1,5 +1,5 @@
 -- The grammar of a line: `fn LO HI CLASS`.
-use Rattle.std.specs.Prelude.{ℕ, ◌&&◌, Bool, nat_le, nat_lt, if◌then◌else◌, List, [], ◌∷◌, length, codes, bytes_eq, Option, Some, None, Result, Ok, Err}
+use Rattle.std.specs.Prelude.{ℕ, ◌&&◌, Bool, nat_le, nat_lt, if◌then◌else◌, List, [], ◌∷◌, length, codes, bytes_eq, Option, Some, None, Result, Ok}
 use Rattle.std.specs.List.{list_all}
 use Rattle.rz_text.specs.Number.{hexadecimal}
 use Rattle.rz_classes.specs.declared.listed.Function.{Function}

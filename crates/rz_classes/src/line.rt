@@ -50,7 +50,12 @@ fn four_words(line: &[u8]) -> Option<(&[u8], &[u8], &[u8], &[u8])>
     if word(line, 4).is_some() {
         return None;
     }
-    Some((word(line, 0)?, word(line, 1)?, word(line, 2)?, word(line, 3)?))
+    Some((
+        word(line, 0)?,
+        word(line, 1)?,
+        word(line, 2)?,
+        word(line, 3)?,
+    ))
 }
 
 // What two numbers and a class list: the range isn't empty, and the word names a class.

@@ -38,12 +38,7 @@ pub fn read_classes(alloc: Global, bytes: &Bytes) -> Result<Classes, ClassError>
 }
 
 // Lists the function of line `n`.
-fn list_line(
-    alloc: Global,
-    classes: &mut Classes,
-    n: u64,
-    line: &[u8],
-) -> Result<(), ClassError>
+fn list_line(alloc: Global, classes: &mut Classes, n: u64, line: &[u8]) -> Result<(), ClassError>
     requires { length classes.old + 1 < 2 ^ 32 }
     ensures sound { OnOk result (fault_behind classes.old n (function_of (words line.now)) ≡ None) }
     ensures listed { OnOk result (classes.new ≡ classes.old ++ option_to_list (function_of (words line.now))) }

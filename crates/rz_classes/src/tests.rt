@@ -15,7 +15,10 @@ fn classes_of(alloc: Global, text: &[u8]) -> Result<Classes, ClassError> {
 #[test]
 fn tells_the_lines(rt: HostRuntime) -> Result<(), Fail> {
     let text = b"# io\n\nfn 0x401030 0x401031 io\nfn 0x10 0X20 a";
-    assert_eq!(rt; classes_of(rt.alloc(), text).err(), Some(ClassError::BadLine(4)));
+    assert_eq!(rt;
+        classes_of(rt.alloc(), text).err(),
+        Some(ClassError::BadLine(4))
+    );
     let text = b"# io\n\nfn 0x401030 0x401031 io\nfn 0x0010 0xfF ~!\nfn 0xff 0x100 io\n";
     let classes = classes_of(rt.alloc(), text)?;
     assert_eq!(rt; classes.len(), 3);
@@ -32,11 +35,20 @@ fn tells_the_lines(rt: HostRuntime) -> Result<(), Fail> {
 fn names_the_first_bad_line(rt: HostRuntime) {
     for (text, fault) in [
         (b"".as_slice(), None),
-        (b"fn 0x401000 0x401010 a\nfn 0x40100f 0x401020 b", Some(ClassError::Overlap(2))),
+        (
+            b"fn 0x401000 0x401010 a\nfn 0x40100f 0x401020 b",
+            Some(ClassError::Overlap(2)),
+        ),
         (b"fn 0x401000 0x401010 a\nfn 0x401010 0x401020 b", None),
-        (b"fn 0x401000 0x401010 a\nfn 0x400000 0x401001 b", Some(ClassError::Overlap(2))),
+        (
+            b"fn 0x401000 0x401010 a\nfn 0x400000 0x401001 b",
+            Some(ClassError::Overlap(2)),
+        ),
         (b"fn 0x401000 0x401010 a\nfn 0x400000 0x401000 b", None),
-        (b"fn 0x20 0x30 a\nfn 0x10 0x40 b\nfn", Some(ClassError::Overlap(2))),
+        (
+            b"fn 0x20 0x30 a\nfn 0x10 0x40 b\nfn",
+            Some(ClassError::Overlap(2)),
+        ),
         (b"fn 0x10 0x10 a", Some(ClassError::BadLine(1))),
         (b"fn 0x10 0x11 a\r\n", Some(ClassError::BadLine(1))),
         (b"fn 0x10 0x11  a", Some(ClassError::BadLine(1))),

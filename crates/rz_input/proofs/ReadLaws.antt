@@ -32,14 +32,6 @@ IsDraft-start text input e = record {
   value = e;
 }
 
-pub IsDraft-pass : (text : List ℕ) (input : Input) (line : Line) (rest : List Line)
-    → IsDraft text input (line ∷ rest) → has_content line.1 ≡ false → IsDraft text input rest
-IsDraft-pass text input line rest so_far h = record {
-  earlier = so_far.earlier;
-  read = IsRead-pass fault_of_line text so_far.earlier line rest so_far.read h;
-  value = so_far.value;
-}
-
 abbrev pub input_with : List (List ℕ) → List ℕ → List ReplyOf → Input
 input_with args stdin replies = record { args = args; stdin = stdin; replies = replies }
 
@@ -80,24 +72,8 @@ IsDraft-more text input new line rest so_far h sound e = record {
   value = e ∙ rw so_far.value (sym (input_from-more so_far.earlier line));
 }
 
--- the text is at its end
-pub IsDraft-end : (text : List ℕ) (input : Input) → length text ≤ 16777216 → IsDraft text input []
-    → (fault_of text ≡ None) × (input ≡ input_of text)
-IsDraft-end text input short so_far =
-    let end = IsRead-end fault_of_line text so_far.earlier so_far.read in
-    let test : nat_lt 16777216 (length text) ≡ false = grind arith in
-    (rw test end.1, so_far.value ∙ ap (λ (ls : List Line). input_from (entries ls)) (sym end.0))
-
 -- what is read is valid
 pub IsDraft-valid : (text : List ℕ) (input : Input) (rest : List Line) → IsDraft text input rest → length (strings input.args) ≤ 65536 → IsValid input
 IsDraft-valid text input rest so_far few =
     let valid = IsValid-lines so_far.earlier (rw so_far.value at few) in
     rw so_far.value valid
-
--- the line has a fault
-pub IsDraft-fault : (text : List ℕ) (input : Input) (line : Line) (rest : List Line) (e : InputError) → length text ≤ 16777216
-    → IsDraft text input (line ∷ rest) → has_content line.1 ≡ true → fault_behind input.args line.0 (entry_of (words line.1)) ≡ Some e
-    → fault_of text ≡ Some e
-IsDraft-fault text input line rest e short so_far h some =
-    let test : nat_lt 16777216 (length text) ≡ false = grind arith in
-    rw test (IsRead-fault fault_of_line text so_far.earlier line rest e so_far.read h (rw so_far.value at some))

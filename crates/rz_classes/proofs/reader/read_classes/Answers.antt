@@ -1,6 +1,6 @@
-use Rattle.std.proofs.Common.{◌≡◌, ◌≤◌, ◌∷◌, length, true, arith, rules}
+use Rattle.std.proofs.Common.{◌≡◌, ◌≤◌, length, true, rules}
 use Rattle.rz_text.specs.Lines.{has_content}
-use Rattle.rz_classes.proofs.ReadLaws.{IsListed-start, IsListed-pass, IsListed-more, IsListed-end, IsListed-fault}
+use Rattle.rz_classes.proofs.ReadLaws.{IsListed-start, IsListed-more}
 use Rattle.rz_classes.proofs.reader.read_classes.Goals as goal
 
 pub loop-n-init : goal.loop-n-init

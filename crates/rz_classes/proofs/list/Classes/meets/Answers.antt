@@ -1,5 +1,4 @@
-use Rattle.std.proofs.Common.{sym, ◌∙◌, ap}
-use Rattle.std.specs.Option.{IsSome}
+use Rattle.std.proofs.Common.{sym, ◌∙◌}
 use Rattle.rz_classes.proofs.RangeLaws.{meets_range-none, meets_range-last, no_function, nat_cmp-less, less-nat_cmp, at_most-nat_cmp}
 use Rattle.rz_classes.proofs.list.Classes.meets.Goals as goal
 
@@ -8,7 +7,7 @@ returns-in-None c =
     let none = (c.range.ensures.in_range tt).5 c.in-None.ensures.steps.0 in
     rw (← c.self.view_is)
     (sym (meets_range-none c.self.inside.functions.items c.args.lo c.args.hi no_function
-        (λ q below. sym (c.self.invariant.places q) ∙ none q (tt, nat_cmp-less q c.args.hi below))))
+    (λ q below. sym (c.self.invariant.places q) ∙ none q (tt, nat_cmp-less q c.args.hi below))))
 
 pub returns-in-Some : goal.returns-in-Some
 returns-in-Some c =
