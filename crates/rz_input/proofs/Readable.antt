@@ -42,9 +42,10 @@ hex_visible [] h = tt
 hex_visible (b ∷ bs) h =
     let fits = h.0 in
     let high : b / 16 < 16 = omega arith in
-    let low : b % 16 < 16 = omega arith in
-    (digit_visible (slice_index lower_digits (b / 16)) (b / 16) (IsDigits-lower_digits (b / 16) high),
-     (digit_visible (slice_index lower_digits (b % 16)) (b % 16) (IsDigits-lower_digits (b % 16) low), hex_visible bs h.1))
+    let low : b % 16 < 16 = omega arith in (
+      digit_visible (slice_index lower_digits (b / 16)) (b / 16) (IsDigits-lower_digits (b / 16) high),
+      (digit_visible (slice_index lower_digits (b % 16)) (b % 16) (IsDigits-lower_digits (b % 16) low), hex_visible bs h.1),
+    )
 
 digits_visible : (ds : List ℕ) → AllDigits 10 ds → IsVisible ds
 digits_visible [] h = tt

@@ -173,7 +173,7 @@ printable : (input : Input) → IsValid input → AllByRecursion HasWord input.r
 printable input valid fits =
     printable-append (map (λ (arg : List ℕ). Arg arg) input.args) _ (printable_args input.args valid.no_zeros)
     (printable-append (map (λ (piece : List ℕ). Stdin piece) (pieces input.stdin)) _ (printable_stdin input.stdin valid.stdin)
-     (printable_replies input.replies valid.replies fits))
+    (printable_replies input.replies valid.replies fits))
 
 no_ends : (es : List Entry) → AllByRecursion IsPrintable es → AllByRecursion (λ e. All (λ b. (b == 10) ≡ false) (entry_line e)) es
 no_ends [] h = tt

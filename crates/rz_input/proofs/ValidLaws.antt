@@ -67,7 +67,7 @@ numbered_reply-valid kind (Ok n) =
     valid-if (bytes_eq kind (codes "atmost") && nat_le 1 n) _ _ (λ h. leb-true 1 n (and_parts _ _ h).1) (λ _.
     valid-if (bytes_eq kind (codes "error") && nat_le 1 n && nat_le n 4095) _ None
     (λ h. let parts = and_parts (bytes_eq kind (codes "error") && nat_le 1 n) (nat_le n 4095) h in
-        (leb-true 1 n (and_parts _ _ parts.0).1, leb-true n 4095 parts.1)) (λ _. tt))
+    (leb-true 1 n (and_parts _ _ parts.0).1, leb-true n 4095 parts.1)) (λ _. tt))
 
 entry_of_two-valid : (key value : List ℕ) → IsValidSome (entry_of_two key value)
 entry_of_two-valid key value =
