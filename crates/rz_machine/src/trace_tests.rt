@@ -1,10 +1,10 @@
 // Traces of worked programs, and the calls that take memory where there is enough.
 
 use crate::first::First;
-use crate::thin::read_thin;
 use crate::trace::{AddrSet, EdgeSet, Record, TraceRefusal, trace};
 use rz_elf::elf::Elf;
 use rz_elf::fault::ElfError;
+use rz_elf::read::read_elf;
 use rz_num::{Bytes, put_u64};
 use rz_sys::input::Input;
 use std::alloc::Global;
@@ -27,7 +27,7 @@ fn program(alloc: Global, code: &[u8]) -> Result<Elf, ElfError> {
     let mut bytes = Bytes::from_slice(alloc, &headers)?;
     bytes.push_all(&[0; 3976])?;
     bytes.push_all(code)?;
-    read_thin(alloc, bytes)
+    read_elf(alloc, bytes)
 }
 
 #[test]
@@ -47,7 +47,7 @@ fn traces_a_greeting(rt: HostRuntime) -> Result<(), Fail> {
     assert_eq!(rt; nodes.as_slice(), begun.as_slice());
     assert_eq!(rt; rec.nodes.len(), 8);
     assert_eq!(rt; rec.edges.len(), 7);
-    let edges = rec.edges.to_pairs(alloc)?;
+    let edges = rec.edges.sorted(alloc)?;
     assert_eq!(rt;
         edges.as_slice().last().copied(),
         Some((0x40_101b, 0x40_1020))
@@ -104,7 +104,7 @@ fn sets_ascend(rt: HostRuntime) -> Result<(), Fail> {
     assert!(rt; edges.insert((3, 9))?);
     assert_eq!(rt; nodes.sorted(alloc)?.as_slice(), [3, 5, 7].as_slice());
     assert_eq!(rt;
-        edges.to_pairs(alloc)?.as_slice(),
+        edges.sorted(alloc)?.as_slice(),
         [(3, 9), (9, 3), (9, 5), (9, 7)].as_slice()
     );
     Ok(())
