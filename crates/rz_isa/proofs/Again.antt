@@ -1,31 +1,21 @@
-use Rattle.std.proofs.Common.{ℕ, zero, suc, ◌≡◌, ◌+◌, ◌/◌, ◌%◌, ◌^◌, ◌<◌, ◌==◌, refl, ap, sym, ◌∙◌, subst, arith, Bool, true, not, ◌&&◌, ◌||◌, ◌⊎◌, inl, inr, Option, Some, None}
+use Rattle.std.proofs.Common.{ℕ, ◌≡◌, ◌+◌, ◌/◌, ◌%◌, ◌^◌, ◌<◌, ◌==◌, refl, ap, sym, ◌∙◌, subst, arith, Bool, true, not, ◌&&◌, ◌||◌, ◌⊎◌, inl, inr, Option, Some, None}
 use Rattle.std.specs.Prelude.{if◌then◌else◌}
 use Rattle.std.specs.Option.{option_and_then}
 use Rattle.std.proofs.lemmas.Bool.{cases_Bool}
 use Rattle.std.proofs.lemmas.Bool.Decides.{nat_tests}
-use Rattle.rz_num.specs.declared.width.Width.{Width}
-use Rattle.rz_num.specs.declared.width.Width.TheVariants.{W8, W64}
+use Rattle.rz_isa.proofs.Types.{Width, W8, W64, OpMap, F3Rule, Size, RmRule, Row, Letter, Op, Reg, Fields}
 use Rattle.rz_flags.specs.Cond.{cond_of, number_of as number_of_cond}
-use Rattle.rz_isa.specs.declared.rows.OpMap.{OpMap}
 use Rattle.rz_isa.specs.declared.rows.OpMap.TheVariants as maps
-use Rattle.rz_isa.specs.declared.rows.F3Rule.{F3Rule}
 use Rattle.rz_isa.specs.declared.rows.F3Rule.TheVariants as f3s
-use Rattle.rz_isa.specs.declared.rows.Size.{Size}
 use Rattle.rz_isa.specs.declared.rows.Size.TheVariants as sizes
-use Rattle.rz_isa.specs.declared.rows.RmRule.{RmRule}
 use Rattle.rz_isa.specs.declared.rows.RmRule.TheVariants as rules
-use Rattle.rz_isa.specs.declared.rows.Row.{Row}
-use Rattle.rz_isa.specs.declared.rows.Letter.{Letter}
 use Rattle.rz_isa.specs.declared.rows.Letter.TheVariants as letters
-use Rattle.rz_isa.specs.declared.rows.Op.{Op}
 use Rattle.rz_isa.specs.declared.rows.Op.TheVariants as ops
-use Rattle.rz_isa.specs.declared.instruction.Reg.{Reg}
 use Rattle.rz_isa.specs.declared.instruction.Reg.TheVariants as regs
-use Rattle.rz_isa.specs.declared.spelled.Fields.{Fields}
 use Rattle.rz_isa.specs.Spelling.{is_met, b_demand}
 use Rattle.rz_isa.specs.Fields.{build_op, letter_width, rm_width, is_rep, place_at, operand_at, reg_at, number_of, number_at, count_at, index_at}
 use Rattle.rz_isa.specs.Having.{has_width, has_reg, has_place, has_cond, has_imm, has_rep, bars_rex, needs_rex, in_opcode, opcode_of, b_needed, place_b, code_of, can_have}
-use Rattle.rz_isa.specs.Finding.{least_width, least_place, least, with_place, with_operand, with_reg, with_number, with_count, with_index, same_truth, same_width, same_arith, same_unary, same_wide, same_shift, same_bit, same_scan, same_change, rep_byte, found_in}
+use Rattle.rz_isa.specs.Finding.{least_width, least_place, least, with_place, with_operand, with_reg, with_number, with_count, with_index, same_width, rep_byte, found_in}
 use Rattle.rz_isa.specs.Regular.{is_single, width_suits, names_number, is_exchange}
 use Rattle.rz_isa.proofs.Equal.{same_width-refl, same_truth-refl, same_arith-refl, same_unary-refl, same_wide-refl, same_shift-refl, same_bit-refl, same_scan-refl, same_change-refl}
 use Rattle.rz_isa.proofs.Built.{imm_small}
@@ -175,7 +165,7 @@ nop_met : (m : OpMap) (o n : ℕ) → n ≡ 0 → is_met (b_demand ops.Nop m o) 
 nop_met maps.Two o n e = refl
 nop_met maps.One o n e = elim (cases_Bool (o == 0x90)) [ inl y ↦ grind (arith, nat_tests) | inr k ↦ grind (arith, nat_tests) ]
 
-least_place_b : (r : Option RmRule) → place_b (least_place r) ≡ 0
+pub least_place_b : (r : Option RmRule) → place_b (least_place r) ≡ 0
 least_place_b (Some rules.Any) = refl
 least_place_b _ = refl
 

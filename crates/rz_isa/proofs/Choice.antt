@@ -3,15 +3,10 @@ use Rattle.std.specs.Prelude.{nat_lt, slice_get, is_some, IsSome, if◌then◌el
 use Rattle.std.specs.List.{list_all}
 use Rattle.std.proofs.lemmas.Bool.{cases_Bool}
 use Rattle.std.proofs.lemmas.Bool.Decides.{nat_tests}
-use Rattle.rz_isa.specs.declared.rows.Form.{Form}
+use Rattle.rz_isa.proofs.Types.{Form, RmRule, Row, Insn, Place, Fields}
 use Rattle.rz_isa.specs.declared.rows.Form.TheVariants as forms
-use Rattle.rz_isa.specs.declared.rows.RmRule.{RmRule}
 use Rattle.rz_isa.specs.declared.rows.RmRule.TheVariants as rules
-use Rattle.rz_isa.specs.declared.rows.Row.{Row}
-use Rattle.rz_isa.specs.declared.instruction.Insn.{Insn}
-use Rattle.rz_isa.specs.declared.instruction.Place.{Place}
 use Rattle.rz_isa.specs.declared.instruction.Place.TheVariants as places
-use Rattle.rz_isa.specs.declared.spelled.Fields.{Fields}
 use Rattle.rz_isa.specs.Spelling.{bytes_of, rex_bytes, escape, imm_len, SpelledBy}
 use Rattle.rz_isa.specs.Fields.{fields, build_op}
 use Rattle.rz_isa.specs.Having.{code_of}

@@ -2,24 +2,15 @@ use Rattle.std.proofs.Common.{ℕ, zero, suc, ◌≡◌, ◌+◌, ◌-◌, ◌*�
 use Rattle.std.specs.Prelude.{nat_lt, is_some, if◌then◌else◌}
 use Rattle.std.proofs.lemmas.Bool.{cases_Bool}
 use Rattle.std.proofs.lemmas.Bool.Decides.{nat_tests}
-use Rattle.rz_num.specs.declared.width.Width.{Width}
-use Rattle.rz_num.specs.declared.width.Width.TheVariants.{W8, W16, W32, W64}
-use Rattle.rz_isa.specs.declared.rows.OpMap.{OpMap}
+use Rattle.rz_isa.proofs.Types.{Width, W8, W16, W32, W64, OpMap, F3Rule, Size, RmRule, ImmKind, Row, Op, Place}
 use Rattle.rz_isa.specs.declared.rows.OpMap.TheVariants as maps
-use Rattle.rz_isa.specs.declared.rows.F3Rule.{F3Rule}
 use Rattle.rz_isa.specs.declared.rows.F3Rule.TheVariants as f3s
-use Rattle.rz_isa.specs.declared.rows.Size.{Size}
 use Rattle.rz_isa.specs.declared.rows.Size.TheVariants as sizes
-use Rattle.rz_isa.specs.declared.rows.RmRule.{RmRule}
 use Rattle.rz_isa.specs.declared.rows.RmRule.TheVariants as rules
-use Rattle.rz_isa.specs.declared.rows.ImmKind.{ImmKind}
 use Rattle.rz_isa.specs.declared.rows.ImmKind.TheVariants as imms
-use Rattle.rz_isa.specs.declared.rows.Row.{Row}
 use Rattle.rz_isa.specs.declared.rows.Letter.TheVariants as letters
-use Rattle.rz_isa.specs.declared.rows.Op.{Op}
 use Rattle.rz_isa.specs.declared.rows.Op.TheVariants as ops
 use Rattle.rz_isa.specs.declared.instruction.Reg.TheVariants as regs
-use Rattle.rz_isa.specs.declared.instruction.Place.{Place}
 use Rattle.rz_isa.specs.declared.instruction.Place.TheVariants as places
 use Rattle.rz_isa.specs.Number.{are_bytes, number, numbers, extended, displaced_by}
 use Rattle.rz_isa.specs.Spelling.{Parts, Fits, bit_w, bit_r, bit_x, bit_b, is_met, w_demand, b_demand, disp_len, rm_len, second, rm_fits, width_of, width_at, imm_len, times}
@@ -30,6 +21,7 @@ use Rattle.rz_isa.proofs.Numbers.{number_less, numbers_of, numbers_full, signed_
 use Rattle.rz_isa.proofs.Again.{can_of}
 use Rattle.rz_isa.proofs.Inverse.{IsRegular, regular_of}
 use Rattle.rz_isa.proofs.Tests.{never, if_true, if_false, if_both, and_three, all_three, equal_is, or_left, or_right, below_test}
+use Rattle.rz_isa.proofs.Lesser.{first_low}
 
 -- The fields of a spelling are fields that its row can have.
 
@@ -247,15 +239,11 @@ not_low : (w : Width) (n : ℕ) → is_low_byte w (reg_of w None n) ≡ false
 not_low W8 n = if_both (λ r. is_low_byte W8 r ≡ false) (nat_lt n 4) (regs.R n) (regs.High (n - 4)) (λ e. grind (arith, nat_tests)) (λ _. refl)
 not_low _ n = refl
 
-first_not_low : (w : Width) → is_low_byte w (regs.R 0) ≡ false
-first_not_low W8 = refl
-first_not_low _ = refl
-
 place_not_low : (v : Width) (next : ℕ) (bs : List ℕ) → low_byte_place v (place_of v None next bs) ≡ false
-place_not_low v next bs = place_cases (λ p. low_byte_place v p ≡ false) v None next bs (first_not_low v) (λ low _. not_low v (low + 8 * bit_b None)) (λ mode sib disp. refl) (λ low disp _. refl) (λ a. refl)
+place_not_low v next bs = place_cases (λ p. low_byte_place v p ≡ false) v None next bs (first_low v) (λ low _. not_low v (low + 8 * bit_b None)) (λ mode sib disp. refl) (λ low disp _. refl) (λ a. refl)
 
 rm_not_low : (rm : Option RmRule) (v : Width) (next : ℕ) (bs : List ℕ) → low_byte_place v (rm_place rm v None next bs) ≡ false
-rm_not_low (Some (rules.Fixed b)) v next bs = first_not_low v
+rm_not_low (Some (rules.Fixed b)) v next bs = first_low v
 rm_not_low _ v next bs = place_not_low v next bs
 
 -- ---- the bits of REX that the fields need are among those that stand there

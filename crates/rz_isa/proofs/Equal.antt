@@ -1,19 +1,11 @@
 use Rattle.std.proofs.Common.{◌≡◌, refl, Bool, true, false}
-use Rattle.rz_num.specs.declared.width.Width.{Width}
-use Rattle.rz_num.specs.declared.width.Width.TheVariants.{W8, W16, W32, W64}
-use Rattle.rz_flags.specs.declared.ArithOp.{ArithOp}
+use Rattle.rz_isa.proofs.Types.{Width, W8, W16, W32, W64, ArithOp, UnaryOp, WideOp, ShiftOp, BitOp, ScanOp, FlagOp}
 use Rattle.rz_flags.specs.declared.ArithOp.TheVariants as ariths
-use Rattle.rz_flags.specs.declared.UnaryOp.{UnaryOp}
 use Rattle.rz_flags.specs.declared.UnaryOp.TheVariants as unaries
-use Rattle.rz_flags.specs.declared.WideOp.{WideOp}
 use Rattle.rz_flags.specs.declared.WideOp.TheVariants as wides
-use Rattle.rz_flags.specs.declared.ShiftOp.{ShiftOp}
 use Rattle.rz_flags.specs.declared.ShiftOp.TheVariants as shifts
-use Rattle.rz_flags.specs.declared.BitOp.{BitOp}
 use Rattle.rz_flags.specs.declared.BitOp.TheVariants as bits
-use Rattle.rz_flags.specs.declared.ScanOp.{ScanOp}
 use Rattle.rz_flags.specs.declared.ScanOp.TheVariants as scans
-use Rattle.rz_flags.specs.declared.FlagOp.{FlagOp}
 use Rattle.rz_flags.specs.declared.FlagOp.TheVariants as changes
 use Rattle.rz_isa.specs.Finding.{same_width, same_truth, same_arith, same_unary, same_wide, same_shift, same_bit, same_scan, same_change}
 

@@ -5,9 +5,8 @@ use Rattle.std.proofs.lemmas.Bool.{cases_Bool}
 use Rattle.std.proofs.lemmas.Bool.Decides.{nat_tests}
 use Rattle.std.proofs.lemmas.Grind.{common_steps}
 use Rattle.std.proofs.lemmas.List.Sums.{take_while-cons}
-use Rattle.rz_isa.specs.declared.rows.OpMap.{OpMap}
+use Rattle.rz_isa.proofs.Types.{OpMap, Row}
 use Rattle.rz_isa.specs.declared.rows.OpMap.TheVariants as maps
-use Rattle.rz_isa.specs.declared.rows.Row.{Row}
 use Rattle.rz_isa.specs.Spelling.{is_prefix, is_rex, rex_bytes, rex_fits, escape, Parts, bytes_of, Fits, times, most, prefixes_fit}
 use Rattle.rz_isa.specs.Table.{opcode_plain}
 use Rattle.rz_isa.specs.Reading.{skip_while, rex_at, behind_rex, opcode_at, head_at}

@@ -1,28 +1,20 @@
-use Rattle.std.proofs.Common.{ℕ, ◌≡◌, ◌+◌, ◌*◌, ◌/◌, ◌≤◌, ◌==◌, refl, ap, sym, ◌∙◌, subst, arith, Bool, true, false, not, ◌&&◌, ◌||◌, ◌⊎◌, inl, inr, Option, Some, None}
+use Rattle.std.proofs.Common.{ℕ, ◌≡◌, ◌+◌, ◌*◌, ◌/◌, ◌≤◌, ◌==◌, refl, ap, sym, ◌∙◌, subst, arith, Bool, true, false, not, ◌&&◌, ◌||◌, ◌⊎◌, inl, inr, Option, Some}
 use Rattle.std.specs.Prelude.{nat_lt, if◌then◌else◌}
 use Rattle.std.proofs.lemmas.Bool.{cases_Bool}
 use Rattle.std.proofs.lemmas.Bool.Decides.{nat_tests}
-use Rattle.rz_num.specs.declared.width.Width.{Width}
-use Rattle.rz_num.specs.declared.width.Width.TheVariants.{W8, W16, W32, W64}
-use Rattle.rz_isa.specs.declared.rows.F3Rule.{F3Rule}
+use Rattle.rz_isa.proofs.Types.{Width, W8, F3Rule, Size, RmRule, ImmKind, Row, Reg, Fields}
 use Rattle.rz_isa.specs.declared.rows.F3Rule.TheVariants as f3s
-use Rattle.rz_isa.specs.declared.rows.Size.{Size}
 use Rattle.rz_isa.specs.declared.rows.Size.TheVariants as sizes
-use Rattle.rz_isa.specs.declared.rows.RmRule.{RmRule}
 use Rattle.rz_isa.specs.declared.rows.RmRule.TheVariants as rules
-use Rattle.rz_isa.specs.declared.rows.ImmKind.{ImmKind}
 use Rattle.rz_isa.specs.declared.rows.ImmKind.TheVariants as imms
-use Rattle.rz_isa.specs.declared.rows.Row.{Row}
-use Rattle.rz_isa.specs.declared.instruction.Reg.{Reg}
 use Rattle.rz_isa.specs.declared.instruction.Reg.TheVariants as regs
-use Rattle.rz_isa.specs.declared.spelled.Fields.{Fields}
 use Rattle.rz_isa.specs.Spelling.{is_met, b_demand}
 use Rattle.rz_isa.specs.Fields.{rm_width, number_of}
-use Rattle.rz_isa.specs.Having.{is_byte, has_width, is_register, is_first, is_high, is_low_byte, in_reg_field, in_opcode, has_reg, has_place, has_cond, has_imm, has_rep, code_of, w_needed, r_needed, x_needed, place_b, b_needed, rex_needed, low_byte_place, high_place, bars_rex, needs_rex, opcode_of}
+use Rattle.rz_isa.specs.Having.{is_byte, has_width, is_register, is_first, is_high, is_low_byte, in_reg_field, in_opcode, has_reg, has_place, has_cond, has_imm, has_rep, code_of, w_needed, x_needed, place_b, b_needed, rex_needed, low_byte_place, high_place, bars_rex, needs_rex, opcode_of}
 use Rattle.rz_isa.specs.Finding.{least_width, least_place, least}
 use Rattle.rz_isa.specs.Regular.{is_byte_class}
 use Rattle.rz_isa.proofs.Built.{first_is}
-use Rattle.rz_isa.proofs.Again.{Below, Numbered, Had}
+use Rattle.rz_isa.proofs.Again.{Below, Numbered, Had, least_place_b}
 use Rattle.rz_isa.proofs.Tests.{never, if_both}
 
 -- Lesser fields can be had where the fields that they are below can.
@@ -78,11 +70,7 @@ least_x : (r : Option RmRule) → x_needed (least_place r) ≡ 0
 least_x (Some rules.Any) = refl
 least_x _ = refl
 
-least_pb : (r : Option RmRule) → place_b (least_place r) ≡ 0
-least_pb (Some rules.Any) = refl
-least_pb _ = refl
-
-first_low : (w : Width) → is_low_byte w (regs.R 0) ≡ false
+pub first_low : (w : Width) → is_low_byte w (regs.R 0) ≡ false
 first_low W8 = refl
 first_low _ = refl
 
@@ -121,7 +109,7 @@ rex_less row g f b =
     let w : w_needed row.size g.w ≡ w_needed row.size f.w = ap (w_needed row.size) b.w in
     let c : code_of g.reg ≤ code_of f.reg = either_way (λ r. code_of r ≤ code_of f.reg) g.reg f.reg (regs.R 0) b.reg (omega arith) (omega arith) in
     let x : x_needed g.rm ≤ x_needed f.rm = either_way (λ p. x_needed p ≤ x_needed f.rm) g.rm f.rm (least_place row.rm) b.rm (omega arith) (omega (arith, least_x row.rm)) in
-    let p : place_b g.rm ≤ place_b f.rm = either_way (λ p. place_b p ≤ place_b f.rm) g.rm f.rm (least_place row.rm) b.rm (omega arith) (omega (arith, least_pb row.rm)) in
+    let p : place_b g.rm ≤ place_b f.rm = either_way (λ p. place_b p ≤ place_b f.rm) g.rm f.rm (least_place row.rm) b.rm (omega arith) (omega (arith, least_place_b row.rm)) in
     let e = eighth (code_of g.reg) (code_of f.reg) c in
     sums _ _ _ _ _ _ _ _ w (when_less (in_reg_field row.rm row.digit) _ 0 _ 0 e (omega arith)) x (when_less (in_opcode row.rm row.span) _ _ _ _ e p)
   where

@@ -1,3 +1,4 @@
+pub mod Types
 pub mod Tests
 pub mod Front
 pub mod Exclusion

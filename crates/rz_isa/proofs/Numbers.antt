@@ -4,8 +4,7 @@ use Rattle.std.proofs.lemmas.Bool.{cases_Bool}
 use Rattle.std.proofs.lemmas.Bool.Decides.{nat_tests}
 use Rattle.std.proofs.lemmas.Int.{ints}
 use Rattle.std.proofs.Math.Nat.{pow-succ'}
-use Rattle.rz_num.specs.declared.width.Width.{Width}
-use Rattle.rz_num.specs.declared.width.Width.TheVariants.{W8, W16, W32, W64}
+use Rattle.rz_isa.proofs.Types.{Width, W8, W16, W32, W64}
 use Rattle.rz_num.specs.Width.{size}
 use Rattle.rz_isa.specs.Number.{are_bytes, number, numbers, is_positive, signed, extended}
 use Rattle.rz_isa.specs.Spelling.{full_len}

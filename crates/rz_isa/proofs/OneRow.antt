@@ -5,7 +5,7 @@ use Rattle.std.proofs.lemmas.List.{append-nil}
 use Rattle.std.proofs.lemmas.Bool.{cases_Bool}
 use Rattle.std.proofs.lemmas.Bool.Decides.{nat_tests}
 use Rattle.std.proofs.lemmas.Grind.{common_steps}
-use Rattle.rz_isa.specs.declared.rows.Row.{Row}
+use Rattle.rz_isa.proofs.Types.{Row}
 use Rattle.rz_isa.specs.Spelling.{Parts, bytes_of, SpelledBy}
 use Rattle.rz_isa.specs.Table.{is_plain, all_exclude, OneRow, Lengths}
 use Rattle.rz_isa.proofs.Exclusion.{plain_row, list_all_get, exclude_get, no_common, one_reading}

@@ -1,23 +1,15 @@
-use Rattle.std.proofs.Common.{ℕ, ◌≡◌, ◌+◌, ◌*◌, ◌/◌, ◌%◌, ◌^◌, ◌<◌, ◌≤◌, ◌==◌, refl, ap, sym, ◌∙◌, subst, arith, List, [], ◌∷◌, length, Bool, true, false, not, ◌&&◌, ◌||◌, ◌⊎◌, inl, inr, Option, Some, None}
+use Rattle.std.proofs.Common.{ℕ, ◌≡◌, ◌+◌, ◌*◌, ◌/◌, ◌%◌, ◌^◌, ◌<◌, ◌≤◌, ◌==◌, refl, ap, sym, ◌∙◌, subst, arith, List, [], ◌∷◌, Bool, true, false, not, ◌&&◌, ◌||◌, ◌⊎◌, inl, inr, Option, Some, None}
 use Rattle.std.specs.Prelude.{nat_lt, nat_le, if◌then◌else◌}
 use Rattle.std.proofs.lemmas.Bool.{cases_Bool}
 use Rattle.std.proofs.lemmas.Bool.Decides.{nat_tests}
-use Rattle.rz_num.specs.declared.width.Width.{Width}
-use Rattle.rz_num.specs.declared.width.Width.TheVariants.{W8, W16, W32, W64}
-use Rattle.rz_isa.specs.declared.rows.F3Rule.{F3Rule}
+use Rattle.rz_isa.proofs.Types.{Width, W8, W16, W32, W64, F3Rule, Size, RmRule, Row, Reg, Place, Fields}
 use Rattle.rz_isa.specs.declared.rows.F3Rule.TheVariants as f3s
-use Rattle.rz_isa.specs.declared.rows.Size.{Size}
 use Rattle.rz_isa.specs.declared.rows.Size.TheVariants as sizes
-use Rattle.rz_isa.specs.declared.rows.RmRule.{RmRule}
 use Rattle.rz_isa.specs.declared.rows.RmRule.TheVariants as rules
-use Rattle.rz_isa.specs.declared.rows.Row.{Row}
-use Rattle.rz_isa.specs.declared.instruction.Reg.{Reg}
 use Rattle.rz_isa.specs.declared.instruction.Reg.TheVariants as regs
-use Rattle.rz_isa.specs.declared.instruction.Place.{Place}
 use Rattle.rz_isa.specs.declared.instruction.Place.TheVariants as places
-use Rattle.rz_isa.specs.declared.spelled.Fields.{Fields}
 use Rattle.rz_isa.specs.Number.{are_bytes}
-use Rattle.rz_isa.specs.Spelling.{times, most_66, takes_66, prefixes_fit, f3_demand, is_rex, rex_fits, bit_w, bit_r, bit_x, bit_b, is_met, w_demand, rm_fits, rule_fits, rm_len, second, width_of}
+use Rattle.rz_isa.specs.Spelling.{times, most_66, takes_66, prefixes_fit, f3_demand, is_rex, rex_fits, bit_w, bit_r, bit_x, bit_b, is_met, w_demand, rm_fits, rule_fits, width_of}
 use Rattle.rz_isa.specs.Fields.{reg_of, place_of, rm_place, rm_width, reg_field, reg_number, repeat_in, rep_of}
 use Rattle.rz_isa.specs.Having.{is_wide, is_half, has_width, code_of, is_register, is_first, is_high, is_low_byte, in_reg_field, in_opcode, has_reg, is_number, is_index, is_disp, names_register, names_memory, is_first_place, has_place, is_repeat, has_rep, number_in, w_needed, r_needed, x_needed, place_b, b_needed, rex_needed, low_byte_place, high_place, needs_rex}
 use Rattle.rz_isa.specs.Canonical.{repeat_prefix, prefixes_for, rex_for, place_bytes, reg_bits, rm_bytes, place_reaches}
@@ -25,7 +17,7 @@ use Rattle.rz_isa.specs.Regular.{digit_small, rule_small}
 use Rattle.rz_isa.proofs.Built.{first_is}
 use Rattle.rz_isa.proofs.Again.{Had}
 use Rattle.rz_isa.proofs.Sound.{is_reg_place, PlaceRead, read_register, read_absolute, read_memory}
-use Rattle.rz_isa.proofs.Tests.{and_both, if_true, if_false, if_both, and_three, or_left, or_right, all_three, equal_test}
+use Rattle.rz_isa.proofs.Tests.{and_both, if_true, if_false, if_both, and_three, or_left, or_right, all_three, equal_test, never}
 
 -- The canonical parts fit their row, and they are read as the fields.
 
@@ -244,15 +236,9 @@ reg_suits rex W32 (regs.High n) h s = absurd (cc)
 reg_suits rex W64 (regs.High n) h s = absurd (cc)
 
 suits_by : (needs low high : Bool) (v : ℕ) (w : Width) (r : Reg) → is_low_byte w r ≡ low → is_high r ≡ high → (low ≡ true → needs ≡ true) → (high ≡ true → needs ≡ false) → suits (if needs then Some v else None) w r ≡ true
-suits_by true low true v w r el eh fl fh = absurd (never (fh refl))
-  where
-    never : true ≡ false → ⊥
-    never e = cc
+suits_by true low true v w r el eh fl fh = absurd (never true refl (fh refl))
 suits_by true low false v w r el eh fl fh = ap not eh
-suits_by false true high v w r el eh fl fh = absurd (never (fl refl))
-  where
-    never : false ≡ true → ⊥
-    never e = cc
+suits_by false true high v w r el eh fl fh = absurd (never false (fl refl) refl)
 suits_by false false high v w r el eh fl fh = ap not el
 
 or_middle : (a b c : Bool) → b ≡ true → (a || b || c) ≡ true
@@ -307,10 +293,7 @@ read_place v rex next reg (places.At a) lr ln h eb ex hs hr = (let la : a < 2 ^ 
 
 digit_met : (digit : Option ℕ) (code : ℕ) → is_met digit (reg_bits digit code) ≡ true
 digit_met None code = refl
-digit_met (Some d) code = same d
-  where
-    same : (d : ℕ) → (d == d) ≡ true
-    same d = grind (arith, nat_tests)
+digit_met (Some d) code = equal_test d d refl
 
 digit_low : (digit : Option ℕ) (code : ℕ) → digit_small digit ≡ true → reg_bits digit code < 8
 digit_low None code h = omega arith
@@ -370,10 +353,7 @@ operand_read rule digit span base v w rex next p r o c g named fit =
 
 -- a fixed byte that names a register stands alone
 fixed_parts : (k : ℕ) (digit : Option ℕ) → rule_small (Some (rules.Fixed k)) digit ≡ true → (rm_fits (Some (rules.Fixed k)) digit (k ∷ []) ≡ true) × (are_bytes (k ∷ []) ≡ true)
-fixed_parts k None h = (let three : (k / 64 == 3) ≡ true = grind arith in (and_both _ _ (and_both _ _ (same k) refl) (ap (λ n. 1 == n) (if_true (k / 64 == 3) 1 _ three)), and_both _ _ (grind arith) refl))
-  where
-    same : (k : ℕ) → (k == k) ≡ true
-    same k = grind (arith, nat_tests)
+fixed_parts k None h = (let three : (k / 64 == 3) ≡ true = grind arith in (and_both _ _ (and_both _ _ (equal_test k k refl) refl) (ap (λ n. 1 == n) (if_true (k / 64 == 3) 1 _ three)), and_both _ _ (grind arith) refl))
 fixed_parts k (Some d) h = absurd (false_and (nat_lt k 256 && k / 64 == 3) h)
   where
     false_and : (a : Bool) → (a && false) ≡ true → ⊥

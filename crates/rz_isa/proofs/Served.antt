@@ -4,43 +4,28 @@ use Rattle.std.specs.List.{list_all}
 use Rattle.std.specs.Option.{option_and_then}
 use Rattle.std.proofs.lemmas.Bool.{cases_Bool}
 use Rattle.std.proofs.lemmas.Bool.Decides.{nat_tests}
-use Rattle.rz_flags.specs.declared.Cond.{Cond}
+use Rattle.rz_isa.proofs.Types.{Cond, ArithOp, Width, W8, W16, W32, W64, Form, OpMap, RmRule, Size, ImmKind, Op, Row, Insn, Mem, Place, Fields}
 use Rattle.rz_flags.specs.declared.Cond.TheVariants as conds
 use Rattle.rz_flags.specs.Cond.{number_of}
-use Rattle.rz_flags.specs.declared.ArithOp.{ArithOp}
 use Rattle.rz_flags.specs.declared.ArithOp.TheVariants as ariths
 use Rattle.rz_flags.specs.declared.ShiftOp.TheVariants as shifts
-use Rattle.rz_num.specs.declared.width.Width.{Width}
-use Rattle.rz_num.specs.declared.width.Width.TheVariants.{W8, W16, W32, W64}
-use Rattle.rz_isa.specs.declared.rows.Form.{Form}
 use Rattle.rz_isa.specs.declared.rows.Form.TheVariants as forms
-use Rattle.rz_isa.specs.declared.rows.OpMap.{OpMap}
 use Rattle.rz_isa.specs.declared.rows.OpMap.TheVariants as maps
 use Rattle.rz_isa.specs.declared.rows.F3Rule.TheVariants as f3s
-use Rattle.rz_isa.specs.declared.rows.RmRule.{RmRule}
 use Rattle.rz_isa.specs.declared.rows.RmRule.TheVariants as rules
-use Rattle.rz_isa.specs.declared.rows.Size.{Size}
 use Rattle.rz_isa.specs.declared.rows.Size.TheVariants as sizes
-use Rattle.rz_isa.specs.declared.rows.ImmKind.{ImmKind}
 use Rattle.rz_isa.specs.declared.rows.ImmKind.TheVariants as imms
-use Rattle.rz_isa.specs.declared.rows.Letter.{Letter}
 use Rattle.rz_isa.specs.declared.rows.Letter.TheVariants as letters
-use Rattle.rz_isa.specs.declared.rows.Op.{Op}
 use Rattle.rz_isa.specs.declared.rows.Op.TheVariants as ops
-use Rattle.rz_isa.specs.declared.rows.Row.{Row}
-use Rattle.rz_isa.specs.declared.instruction.Insn.{Insn}
 use Rattle.rz_isa.specs.declared.instruction.Insn.TheVariants as insns
 use Rattle.rz_isa.specs.declared.instruction.Reg.TheVariants as regs
-use Rattle.rz_isa.specs.declared.instruction.Mem.{Mem}
-use Rattle.rz_isa.specs.declared.instruction.Place.{Place}
 use Rattle.rz_isa.specs.declared.instruction.Place.TheVariants as places
 use Rattle.rz_isa.specs.declared.instruction.Operand.TheVariants as operands
 use Rattle.rz_isa.specs.declared.instruction.Count.TheVariants as counts
-use Rattle.rz_isa.specs.declared.spelled.Fields.{Fields}
 use Rattle.rz_isa.specs.Spelling.{bytes_of, rex_bytes, escape, imm_len}
 use Rattle.rz_isa.specs.Having.{code_of, has_width, has_imm, is_half, is_memory, rex_needed, needs_rex, can_have}
 use Rattle.rz_isa.specs.Finding.{least, same_arith, found_in, if_can, found}
-use Rattle.rz_isa.specs.Canonical.{repeat_prefix, prefixes_for, rex_for, place_bytes, memory_bytes, rm_bytes, imm_value, parts_for, place_reaches, reaches, length_for, same_form, Chosen, or_chosen, chosen_by, chosen, spelled_at, canonical}
+use Rattle.rz_isa.specs.Canonical.{repeat_prefix, prefixes_for, rex_for, place_bytes, memory_bytes, rm_bytes, imm_value, parts_for, place_reaches, reaches, length_for, same_form, Chosen, or_chosen, chosen_by, spelled_at, canonical}
 use Rattle.rz_isa.specs.Emitted.{HasSpelling, HasShortSpelling, place_len, near, close, fits_8, fits_32, register, is_wide_operand, is_emitted, is_double}
 use Rattle.rz_isa.proofs.Again.{Had, had_of, can_of}
 use Rattle.rz_isa.proofs.Choice.{serves_by, length_is}

@@ -1,27 +1,14 @@
 use Rattle.std.proofs.Common.{ℕ, ◌≡◌, ◌%◌, ◌==◌, refl, ap, sym, ◌∙◌, subst, arith, List, Bool, true, false, not, ◌&&◌, ◌||◌, ◌⊎◌, inl, inr, Option, Some, None}
-use Rattle.std.specs.Prelude.{IsTrue, slice_get, if◌then◌else◌}
+use Rattle.std.specs.Prelude.{if◌then◌else◌}
 use Rattle.std.specs.List.{list_all}
-use Rattle.rz_num.specs.declared.width.Width.{Width}
-use Rattle.rz_num.specs.declared.width.Width.TheVariants.{W8, W16, W32, W64}
+use Rattle.rz_isa.proofs.Types.{Width, W64, Size, RmRule, Row, Letter, Op, Insn, Reg, Place, Operand, Fields}
 use Rattle.rz_flags.specs.Cond.{cond_of}
-use Rattle.rz_isa.specs.declared.rows.Size.{Size}
 use Rattle.rz_isa.specs.declared.rows.Size.TheVariants as sizes
-use Rattle.rz_isa.specs.declared.rows.RmRule.{RmRule}
 use Rattle.rz_isa.specs.declared.rows.RmRule.TheVariants as rules
-use Rattle.rz_isa.specs.declared.rows.Row.{Row}
-use Rattle.rz_isa.specs.declared.rows.Letter.{Letter}
 use Rattle.rz_isa.specs.declared.rows.Letter.TheVariants as letters
-use Rattle.rz_isa.specs.declared.rows.Op.{Op}
 use Rattle.rz_isa.specs.declared.rows.Op.TheVariants as ops
-use Rattle.rz_isa.specs.declared.instruction.Insn.{Insn}
 use Rattle.rz_isa.specs.declared.instruction.Insn.TheVariants as insns
-use Rattle.rz_isa.specs.declared.instruction.Reg.{Reg}
-use Rattle.rz_isa.specs.declared.instruction.Reg.TheVariants as regs
-use Rattle.rz_isa.specs.declared.instruction.Place.{Place}
 use Rattle.rz_isa.specs.declared.instruction.Place.TheVariants as places
-use Rattle.rz_isa.specs.declared.instruction.Operand.{Operand}
-use Rattle.rz_isa.specs.declared.instruction.Operand.TheVariants as operands
-use Rattle.rz_isa.specs.declared.spelled.Fields.{Fields}
 use Rattle.rz_isa.specs.Fields.{place_at, operand_at, reg_at, number_of, number_at, count_at, index_at, letter_width, rm_width, build_op}
 use Rattle.rz_isa.specs.Insn.{target_of, rip_of, rip_of_operand, first_some, rip_target_of}
 use Rattle.rz_isa.specs.Having.{has_width, is_register, is_first, has_reg, in_reg_field, in_opcode, names_register, names_memory, is_first_place, has_place}
@@ -29,7 +16,6 @@ use Rattle.rz_isa.specs.Finding.{same_truth}
 use Rattle.rz_isa.specs.Regular.{is_regular}
 use Rattle.rz_isa.specs.Suited.{letter_suits, letters_of, has_condition, has_target, has_repeat, is_displacement, is_repeats, prefixes_suit, is_indirect, is_wide_class, is_suited}
 use Rattle.rz_isa.specs.Spells.{next_address}
-use Rattle.rz_isa.specs.Table.{SpelledSomewhere}
 use Rattle.rz_isa.specs.Emitted.{is_wide_operand, indirect_operand}
 use Rattle.rz_isa.specs.Targets.{IgnoresPlace, RipTargets, DirectTargets, IndirectOperands}
 use Rattle.rz_isa.proofs.Again.{Had, had_of}
@@ -183,10 +169,7 @@ direct_targets rows all n row f at =
 -- ---- indirect operands
 
 wide_register : (r : Reg) → is_register W64 r ≡ true → is_wide_operand (places.Reg r) ≡ true
-wide_register r h = (let a : (is_register W64 r || false) ≡ true = or_none _ h in a)
-  where
-    or_none : (a : Bool) → a ≡ true → (a || false) ≡ true
-    or_none a e = grind arith
+wide_register r h = or_left (is_register W64 r) false h
 
 first_register : (r : Reg) → is_first r ≡ true → is_register W64 r ≡ true
 first_register r h = subst (λ k. is_register W64 k ≡ true) (first_is r h) refl
@@ -227,17 +210,13 @@ letter_wide row _ f reg rm = wide_place row.rm f.rm rm
 some_is : (p q : Place) → Some p ≡ Some q → p ≡ q
 some_is p q e = cc
 
+by_letter : (row : Row) (op : Op) (l : Letter) (f : Fields) (p : Place) → op ≡ row.op → W64 ≡ f.w → has_place row.rm (rm_width op W64) f.rm ≡ has_place row.rm W64 f.rm → Had row f → Some (place_at l f) ≡ Some p → is_wide_operand p ≡ true
+by_letter row op l f p eo ew same h e = subst (λ q. is_wide_operand q ≡ true) (some_is _ _ e)
+    (letter_wide row l f (subst (λ w. has_reg row w f.reg ≡ true) (sym ew) h.reg) (sym same ∙ (ap (λ w. has_place row.rm (rm_width op w) f.rm) ew ∙ (ap (λ o. has_place row.rm (rm_width o f.w) f.rm) eo ∙ h.rm))))
+
 indirect_wide : (row : Row) (op : Op) (f : Fields) (p : Place) → op ≡ row.op → (not (is_indirect op) || is_wide_class row.size) ≡ true → Had row f → indirect_operand (build_op op f) ≡ Some p → is_wide_operand p ≡ true
-indirect_wide row (ops.CallInd l) f p eo wide h e = called l eo (wide_of_class row.size f.w wide h.w) e
-  where
-    called : (l : Letter) → ops.CallInd l ≡ row.op → W64 ≡ f.w → Some (place_at l f) ≡ Some p → is_wide_operand p ≡ true
-    called l eo ew e = subst (λ q. is_wide_operand q ≡ true) (some_is _ _ e)
-        (letter_wide row l f (subst (λ w. has_reg row w f.reg ≡ true) (sym ew) h.reg) (ap (λ w. has_place row.rm w f.rm) ew ∙ (ap (λ o. has_place row.rm (rm_width o f.w) f.rm) eo ∙ h.rm)))
-indirect_wide row (ops.JmpInd l) f p eo wide h e = jumped l eo (wide_of_class row.size f.w wide h.w) e
-  where
-    jumped : (l : Letter) → ops.JmpInd l ≡ row.op → W64 ≡ f.w → Some (place_at l f) ≡ Some p → is_wide_operand p ≡ true
-    jumped l eo ew e = subst (λ q. is_wide_operand q ≡ true) (some_is _ _ e)
-        (letter_wide row l f (subst (λ w. has_reg row w f.reg ≡ true) (sym ew) h.reg) (ap (λ w. has_place row.rm w f.rm) ew ∙ (ap (λ o. has_place row.rm (rm_width o f.w) f.rm) eo ∙ h.rm)))
+indirect_wide row (ops.CallInd l) f p eo wide h e = by_letter row (ops.CallInd l) l f p eo (wide_of_class row.size f.w wide h.w) refl h e
+indirect_wide row (ops.JmpInd l) f p eo wide h e = by_letter row (ops.JmpInd l) l f p eo (wide_of_class row.size f.w wide h.w) refl h e
 indirect_wide row _ f p eo wide h e = absurd (cc)
 
 pub indirect_operands : (rows : List Row) → list_all is_regular rows ≡ true → list_all is_suited rows ≡ true → IndirectOperands rows

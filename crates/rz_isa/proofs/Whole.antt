@@ -1,20 +1,13 @@
-use Rattle.std.proofs.Common.{ℕ, ◌≡◌, ◌+◌, ◌/◌, ◌%◌, ◌^◌, ◌<◌, ◌≤◌, ◌==◌, refl, ap, sym, ◌∙◌, subst, arith, List, [], ◌∷◌, ◌++◌, length, Bool, true, false, not, ◌&&◌, inl, inr, Option, Some, None, length-append}
-use Rattle.std.specs.Prelude.{nat_lt, nat_le, is_some, if◌then◌else◌}
+use Rattle.std.proofs.Common.{ℕ, ◌≡◌, ◌+◌, ◌/◌, ◌%◌, ◌^◌, ◌<◌, ◌≤◌, ◌==◌, refl, ap, sym, ◌∙◌, subst, arith, List, [], ◌∷◌, ◌++◌, length, Bool, true, false, not, ◌&&◌, ◌||◌, inl, inr, Option, Some, None, length-append}
+use Rattle.std.specs.Prelude.{nat_lt, nat_le, is_some, if◌then◌else◌, is_none}
 use Rattle.std.proofs.lemmas.Bool.{cases_Bool}
 use Rattle.std.proofs.lemmas.Bool.Decides.{nat_tests}
 use Rattle.std.proofs.lemmas.Grind.{common_steps}
-use Rattle.rz_num.specs.declared.width.Width.{Width}
-use Rattle.rz_num.specs.declared.width.Width.TheVariants.{W8, W16, W32, W64}
-use Rattle.rz_isa.specs.declared.rows.OpMap.{OpMap}
+use Rattle.rz_isa.proofs.Types.{Width, W8, OpMap, RmRule, ImmKind, Row, Place, Fields}
 use Rattle.rz_isa.specs.declared.rows.OpMap.TheVariants as maps
-use Rattle.rz_isa.specs.declared.rows.RmRule.{RmRule}
 use Rattle.rz_isa.specs.declared.rows.RmRule.TheVariants as rules
-use Rattle.rz_isa.specs.declared.rows.ImmKind.{ImmKind}
 use Rattle.rz_isa.specs.declared.rows.ImmKind.TheVariants as imms
-use Rattle.rz_isa.specs.declared.rows.Row.{Row}
-use Rattle.rz_isa.specs.declared.instruction.Place.{Place}
 use Rattle.rz_isa.specs.declared.instruction.Place.TheVariants as places
-use Rattle.rz_isa.specs.declared.spelled.Fields.{Fields}
 use Rattle.rz_isa.specs.Number.{are_bytes}
 use Rattle.rz_isa.specs.Spelling.{Parts, bytes_of, rex_bytes, escape, is_met, b_demand, w_demand, opcode_fits, rm_fits, rm_len, disp_len, second, width_at, imm_len, rex_fits, Fits, SpelledBy}
 use Rattle.rz_isa.specs.Fields.{reg_of, rm_place, rm_width, reg_number, imm_of, rep_of, fields}
@@ -28,24 +21,15 @@ use Rattle.rz_isa.proofs.Complete.{eight_aligned, disp_short, fields_had}
 use Rattle.rz_isa.proofs.Read.{little_bytes, little_length}
 use Rattle.rz_isa.proofs.Sound.{imm_again}
 use Rattle.rz_isa.proofs.Parts.{repeat_both, repeat_prefix-is, prefixes_ok, repeat_again, rep_again, w_is, width_read, bits, reg_field_suits, place_suits, RmGiven, rm_read}
-use Rattle.rz_isa.proofs.Tests.{and_parts, and_both, below_test, within_test, if_true, if_false, if_both, equal_is, equal_test, never}
+use Rattle.rz_isa.proofs.Tests.{and_parts, and_both, below_test, within_test, if_true, if_false, if_both, equal_is, equal_test}
 
 -- The canonical parts of fields are spelled by their row and read as the fields.
 
 -- ---- the opcode
 
-eight_none : (r : Row) → is_block r ≡ true → (r.span == 8) ≡ true → in_opcode r.rm r.span ≡ true
-eight_none r b s = by r.rm refl
-  where
-    none_then : (x : Option RmRule) → x ≡ r.rm → is_block r ≡ true → (r.span == 8) ≡ true → in_opcode x r.span ≡ true
-    none_then None e b s = s
-    none_then (Some k) e b s = absurd (some_not k e b s)
-      where
-        some_not : (k : RmRule) → Some k ≡ r.rm → is_block r ≡ true → (r.span == 8) ≡ true → ⊥
-        some_not k e b s = grind (arith, nat_tests)
-
-    by : (x : Option RmRule) → x ≡ r.rm → in_opcode r.rm r.span ≡ true
-    by x e = none_then r.rm refl b s
+eight_none : (rm : Option RmRule) (o span : ℕ) → (nat_lt o 256 && (span == 1 || (span == 16 && o % 16 == 0) || (span == 8 && o % 8 == 0 && is_none rm))) ≡ true → (span == 8) ≡ true → in_opcode rm span ≡ true
+eight_none None o span b s = s
+eight_none (Some k) o span b s = absurd (grind (arith, nat_tests))
 
 not_in_opcode : (rm : Option RmRule) (span : ℕ) → (span == 8) ≡ false → in_opcode rm span ≡ false
 not_in_opcode None span e = e
@@ -78,7 +62,7 @@ pub record OpcodeRead (row : Row) (f : Fields) : Type 0 where
 pub opcode_read : (row : Row) (f : Fields) → IsRegular row → Had row f → OpcodeRead row f
 opcode_read row f reg h = elim (cases_Bool (row.span == 8)) [
   | inl y ↦
-      (let at = eight_none row reg.block y in
+      (let at = eight_none row.rm row.opcode row.span reg.block y in
       let s = equal_is row.span 8 y in
       let o : opcode_of row f ≡ row.opcode + code_of f.reg % 8 = ap (λ k. row.opcode + k) (if_true (in_opcode row.rm row.span) _ _ at) in
       let z = eight_aligned row reg.block y in

@@ -18,7 +18,6 @@ use Rattle.rz_isa.specs.declared.instruction.Reg.TheVariants as regs
 use Rattle.rz_isa.specs.declared.instruction.Mem.{Mem}
 use Rattle.rz_isa.specs.declared.instruction.Place.{Place}
 use Rattle.rz_isa.specs.declared.instruction.Place.TheVariants as places
-use Rattle.rz_isa.specs.declared.instruction.Operand.{Operand}
 use Rattle.rz_isa.specs.declared.instruction.Operand.TheVariants as operands
 use Rattle.rz_isa.specs.declared.instruction.Count.TheVariants as counts
 use Rattle.rz_isa.specs.Having.{is_extended, is_memory, names_register, names_memory}
@@ -77,18 +76,25 @@ pub record Emits (rows : List Row) : Type 0 where
   -- a move of 64 bits to a register, to memory, of an immediate to memory; of 32 bits from memory
   pub load : (r at : ℕ) (p : Place) → r < 16 → IsTrue (is_wide_operand p) → IsTrue (place_reaches ((at + (2 + place_len p)) % 2 ^ 64) p)
       → HasSpelling rows (insns.Mov W64 (register r) (operands.Place p)) at forms.Near (2 + place_len p)
-  pub store : (r at : ℕ) (m : Mem) → r < 16 → IsTrue (is_memory m) → HasSpelling rows (insns.Mov W64 (places.Mem m) (operands.Place (register r))) at forms.Near (2 + place_len (places.Mem m))
-  pub store_imm : (n at : ℕ) (m : Mem) → IsTrue (fits_32 W64 n) → IsTrue (is_memory m) → HasSpelling rows (insns.Mov W64 (places.Mem m) (operands.Imm n)) at forms.Near (6 + place_len (places.Mem m))
-  pub load_32 : (r at : ℕ) (m : Mem) → r < 16 → IsTrue (is_memory m) → HasShortSpelling rows (insns.Mov W32 (register r) (operands.Place (places.Mem m))) at forms.Near (2 + place_len (places.Mem m))
+  pub store : (r at : ℕ) (m : Mem) → r < 16 → IsTrue (is_memory m)
+      → HasSpelling rows (insns.Mov W64 (places.Mem m) (operands.Place (register r))) at forms.Near (2 + place_len (places.Mem m))
+  pub store_imm : (n at : ℕ) (m : Mem) → IsTrue (fits_32 W64 n) → IsTrue (is_memory m)
+      → HasSpelling rows (insns.Mov W64 (places.Mem m) (operands.Imm n)) at forms.Near (6 + place_len (places.Mem m))
+  pub load_32 : (r at : ℕ) (m : Mem) → r < 16 → IsTrue (is_memory m)
+      → HasShortSpelling rows (insns.Mov W32 (register r) (operands.Place (places.Mem m))) at forms.Near (2 + place_len (places.Mem m))
   -- a move of an immediate to a 32-bit register
-  pub mov : (r n at : ℕ) → r < 16 → n < 2 ^ 32 → HasSpelling rows (insns.Mov W32 (register r) (operands.Imm n)) at forms.Near (5 + r / 8)
-  pub lea : (r at : ℕ) (m : Mem) → r < 16 → IsTrue (is_memory m) → HasSpelling rows (insns.Lea W64 r (places.Mem m)) at forms.Near (2 + place_len (places.Mem m))
+  pub mov : (r n at : ℕ) → r < 16 → n < 2 ^ 32
+      → HasSpelling rows (insns.Mov W32 (register r) (operands.Imm n)) at forms.Near (5 + r / 8)
+  pub lea : (r at : ℕ) (m : Mem) → r < 16 → IsTrue (is_memory m)
+      → HasSpelling rows (insns.Lea W64 r (places.Mem m)) at forms.Near (2 + place_len (places.Mem m))
   pub push : (r at : ℕ) → r < 16 → HasSpelling rows (insns.Push (operands.Place (register r))) at forms.Near (1 + r / 8)
   pub push_byte : (n at : ℕ) → IsTrue (fits_8 W64 n) → HasSpelling rows (insns.Push (operands.Imm n)) at forms.Near 2
-  pub push_imm : (n at : ℕ) → IsTrue (fits_32 W64 n) → fits_8 W64 n ≡ false → HasSpelling rows (insns.Push (operands.Imm n)) at forms.Near 5
+  pub push_imm : (n at : ℕ) → IsTrue (fits_32 W64 n) → fits_8 W64 n ≡ false
+      → HasSpelling rows (insns.Push (operands.Imm n)) at forms.Near 5
   pub pop : (r at : ℕ) → r < 16 → HasSpelling rows (insns.Pop (register r)) at forms.Near (1 + r / 8)
   pub jcc : (c : Cond) (t at : ℕ) → t < 2 ^ 64 → IsTrue (near at 6 t) → HasSpelling rows (insns.Jcc c t) at forms.Near 6
-  pub jcc_short : (c : Cond) (t at : ℕ) → t < 2 ^ 64 → IsTrue (close at 2 t) → HasSpelling rows (insns.Jcc c t) at forms.Short 2
+  pub jcc_short : (c : Cond) (t at : ℕ) → t < 2 ^ 64 → IsTrue (close at 2 t)
+      → HasSpelling rows (insns.Jcc c t) at forms.Short 2
   pub jrcxz : (t at : ℕ) → t < 2 ^ 64 → IsTrue (close at 2 t) → HasSpelling rows (insns.Jrcxz t) at forms.Near 2
   pub jmp : (t at : ℕ) → t < 2 ^ 64 → IsTrue (near at 5 t) → HasSpelling rows (insns.Jmp t) at forms.Near 5
   pub jmp_short : (t at : ℕ) → t < 2 ^ 64 → IsTrue (close at 2 t) → HasSpelling rows (insns.Jmp t) at forms.Short 2
@@ -133,8 +139,11 @@ pub record EmitsLookup (rows : List Row) : Type 0 where
   pub arith_imm : (o : ArithOp) (w : Width) (r n at : ℕ) → IsTrue (is_emitted o) → IsTrue (is_double w) → r < 16 → IsTrue (fits_32 w n) → fits_8 w n ≡ false
       → HasShortSpelling rows (insns.Arith o w (register r) (operands.Imm n)) at forms.Near 7
   -- by one there is an opcode without an immediate
-  pub shr_once : (w : Width) (r at : ℕ) → IsTrue (is_double w) → r < 16 → HasShortSpelling rows (insns.Shift shifts.Shr w (register r) (counts.Imm 1)) at forms.Near 3
-  pub shr : (w : Width) (r n at : ℕ) → IsTrue (is_double w) → r < 16 → n < 2 ^ 8 → n ≢ 1 → HasShortSpelling rows (insns.Shift shifts.Shr w (register r) (counts.Imm n)) at forms.Near 4
+  pub shr_once : (w : Width) (r at : ℕ) → IsTrue (is_double w) → r < 16
+      → HasShortSpelling rows (insns.Shift shifts.Shr w (register r) (counts.Imm 1)) at forms.Near 3
+  pub shr : (w : Width) (r n at : ℕ) → IsTrue (is_double w) → r < 16 → n < 2 ^ 8 → n ≢ 1
+      → HasShortSpelling rows (insns.Shift shifts.Shr w (register r) (counts.Imm n)) at forms.Near 4
   pub push_flags : (at : ℕ) → HasSpelling rows insns.PushFlags at forms.Near 1
   pub pop_flags : (at : ℕ) → HasSpelling rows insns.PopFlags at forms.Near 1
-  pub jmp_ind : (at : ℕ) (m : Mem) → IsTrue (is_memory m) → HasShortSpelling rows (insns.JmpInd (places.Mem m)) at forms.Near (2 + place_len (places.Mem m))
+  pub jmp_ind : (at : ℕ) (m : Mem) → IsTrue (is_memory m)
+      → HasShortSpelling rows (insns.JmpInd (places.Mem m)) at forms.Near (2 + place_len (places.Mem m))

@@ -18,8 +18,10 @@ use Rattle.rz_isa.specs.Having.{can_have}
 use Rattle.rz_isa.specs.Finding.{least, found}
 use Rattle.rz_isa.specs.Regular.{is_exchange}
 use Rattle.rz_isa.specs.Canonical.{canonical}
+use Rattle.rz_isa.specs.Emitted.{has_lookup}
 use Rattle.rz_isa.specs.Spells.{Spells}
 use Rattle.rz_table.specs.declared.profile_rows.TheConstants.{PROFILE}
+use Rattle.rz_table.specs.declared.early_rows.TheConstants.{EARLY}
 
 -- Rows of profile 1, evaluated.
 
@@ -266,6 +268,27 @@ push_of_a_byte = refl
 
 push_of_four_bytes : canonical PROFILE (insns.Push (operands.Imm 0x80)) 0x1000 forms.Near ≡ Some (0x68 ∷ 0x80 ∷ 0x00 ∷ 0x00 ∷ 0x00 ∷ [])
 push_of_four_bytes = refl
+
+-- ---- of the lookup routine
+
+-- profile 1 has transfers that are looked up, its first part none
+profile_has_lookup : (has_lookup PROFILE ≡ true) × (has_lookup EARLY ≡ false)
+profile_has_lookup = (refl, refl)
+
+shift_right_once : canonical PROFILE (insns.Shift shifts.Shr W32 (places.Reg (regs.R 1)) (counts.Imm 1)) 0x1000 forms.Near ≡ Some (0xd1 ∷ 0xe9 ∷ [])
+shift_right_once = refl
+
+shift_right : canonical PROFILE (insns.Shift shifts.Shr W32 (places.Reg (regs.R 1)) (counts.Imm 5)) 0x1000 forms.Near ≡ Some (0xc1 ∷ 0xe9 ∷ 0x05 ∷ [])
+shift_right = refl
+
+sum_with_a_byte : canonical PROFILE (insns.Arith ariths.Add W64 (places.Reg (regs.R 1)) (operands.Imm 1)) 0x1000 forms.Near ≡ Some (0x48 ∷ 0x83 ∷ 0xc1 ∷ 0x01 ∷ [])
+sum_with_a_byte = refl
+
+compare_with_four_bytes : canonical PROFILE (insns.Arith ariths.Cmp W64 (places.Reg (regs.R 1)) (operands.Imm 0x1000)) 0x1000 forms.Near ≡ Some (0x48 ∷ 0x81 ∷ 0xf9 ∷ 0x00 ∷ 0x10 ∷ 0x00 ∷ 0x00 ∷ [])
+compare_with_four_bytes = refl
+
+jump_through_memory : canonical PROFILE (insns.JmpInd (places.Mem (record { base = None; index = None; scale = 1; disp = pos 0x5000 }))) 0x1000 forms.Near ≡ Some (0xff ∷ 0x24 ∷ 0x25 ∷ 0x00 ∷ 0x50 ∷ 0x00 ∷ 0x00 ∷ [])
+jump_through_memory = refl
 
 -- ---- each row once: plain fields can be had, and are found again from what they build
 
