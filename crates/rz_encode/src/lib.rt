@@ -10,3 +10,6 @@ mod spelling;
 mod writer;
 
 pub use encoder::{encode, form_len, spells};
+
+#[cfg(test)]
+mod tests;
