@@ -1,5 +1,5 @@
 ghost use Rattle.std.specs.Prelude.{◌≡◌, ◌<◌, ◌≤◌, length, IsTrue};
-ghost use Rattle.rz_isa.specs.Fields.{imm_of as imm_by, rm_width as rm_width_of, rm_place as rm_place_of, reg_field as reg_field_of, reg_number as reg_number_of, repeat_in as repeat_among, rep_of as rep_by, fields as fields_by};
+ghost use Rattle.rz_isa.specs.Fields.{imm_of as imm_by, rm_place as rm_place_of, reg_field as reg_field_of, reg_number as reg_number_of, repeat_in as repeat_among, rep_of as rep_by, fields as fields_by};
 ghost use Rattle.rz_decode.specs.Views.{parts_view, is_whole_rm};
 
 use crate::fit::width;
@@ -8,8 +8,8 @@ use crate::number::{extended, number};
 use crate::operand::{place_of, reg_of};
 use crate::parts::Parts;
 use crate::rex::{bit_b, bit_r};
-use rz_isa::spelled::letter_width;
-use rz_isa::{F3Rule, Fields, ImmKind, Op, Place, Reg, RmRule, Row};
+use rz_isa::having::rm_width;
+use rz_isa::{F3Rule, Fields, ImmKind, Place, Reg, RmRule, Row};
 use rz_num::{Width, mask};
 
 fn imm_of(imm: Option<ImmKind>, w: Width, next: u64, bytes: &[u8]) -> u64
@@ -21,15 +21,6 @@ fn imm_of(imm: Option<ImmKind>, w: Width, next: u64, bytes: &[u8]) -> u64
         Some(ImmKind::Ibs | ImmKind::Iz) => mask(w, extended(bytes)),
         Some(ImmKind::J8 | ImmKind::J32) => next.wrapping_add(extended(bytes)),
         Some(ImmKind::Ib | ImmKind::Iw | ImmKind::Iv) => number(bytes),
-    }
-}
-
-fn rm_width(op: Op, w: Width) -> Width
-    ensures { result ≡ rm_width_of op w }
-{
-    match op {
-        Op::Extend(_, _, source) => letter_width(source, w),
-        _ => w,
     }
 }
 

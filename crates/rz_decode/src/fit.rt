@@ -1,12 +1,13 @@
 ghost use Rattle.std.specs.Prelude.{◌≡◌, ◌≤◌, length};
-ghost use Rattle.rz_isa.specs.Spelling.{bit_w as bit_w_of, times as times_among, escape, is_met, most as most_of, most_66 as most_66_of, most_67 as most_67_of, takes_66 as takes_66_by, is_allowed as is_allowed_by, f3_demand, prefixes_fit as prefixes_fit_row, w_demand, b_demand, opcode_fits as opcode_fits_row, disp_len as disp_len_of, rm_len as rm_len_of, second as second_of, rule_fits as rule_fits_byte, width_of as width_by, imm_len as imm_len_of};
+ghost use Rattle.rz_isa.specs.Spelling.{bit_w as bit_w_of, times as times_among, escape, is_met, most as most_of, most_66 as most_66_of, most_67 as most_67_of, takes_66 as takes_66_by, is_allowed as is_allowed_by, f3_demand, prefixes_fit as prefixes_fit_row, w_demand, b_demand, opcode_fits as opcode_fits_row, disp_len as disp_len_of, rm_len as rm_len_of, second as second_of, rule_fits as rule_fits_byte, width_of as width_by};
 ghost use Rattle.rz_isa.specs.Table.{same_map as same_maps};
 ghost use Rattle.rz_isa.specs.Decoded.{takes_rm as takes_rm_of, rm_part as rm_part_of, imm_part as imm_part_of, front_len as front_len_of, suits as suits_row};
 ghost use Rattle.rz_decode.specs.Views.{front_view};
 
 use crate::front::{Front, times};
 use crate::rex::{bit_b, bit_w};
-use rz_isa::{F3Rule, ImmKind, Letter, Op, OpMap, RmRule, Row, Size};
+use rz_isa::spelled::imm_len;
+use rz_isa::{F3Rule, Letter, Op, OpMap, RmRule, Row, Size};
 use rz_num::Width;
 
 // ---- prefixes (Intel SDM, volume 2, section 2.1.1)
@@ -210,28 +211,6 @@ pub fn width(row: &Row, rex: Option<u8>, prefixes: &[u8]) -> Width
     ensures { result ≡ width_by row.now.size (bit_w_of rex) (times_among 0x66 prefixes.now) }
 {
     width_of(row.size, bit_w(rex), times(0x66, prefixes))
-}
-
-fn imm_len(imm: Option<ImmKind>, w: Width) -> usize
-    ensures value { result ≡ imm_len_of imm w }
-    ensures small { result ≤ 8 }
-{
-    match imm {
-        None => 0,
-        Some(ImmKind::Ib | ImmKind::Ibs | ImmKind::J8) => 1,
-        Some(ImmKind::Iw) => 2,
-        Some(ImmKind::J32) => 4,
-        Some(ImmKind::Iz) => match w {
-            Width::W16 => 2,
-            _ => 4,
-        },
-        Some(ImmKind::Iv) => match w {
-            Width::W8 => 1,
-            Width::W16 => 2,
-            Width::W32 => 4,
-            Width::W64 => 8,
-        },
-    }
 }
 
 /// How many bytes the immediate has.

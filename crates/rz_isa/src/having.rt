@@ -49,7 +49,8 @@ fn has_width(class: Size, w: Width) -> bool
     }
 }
 
-fn code_of(reg: Reg) -> u32
+/// The number that a spelling has for the register.
+pub fn code_of(reg: Reg) -> u32
     ensures value { result ≡ code_of_reg reg }
     ensures small { result < 260 }
 {
@@ -308,7 +309,8 @@ fn b_needed(row: &Row, f: &Fields) -> u32
     }
 }
 
-fn rex_needed(row: &Row, f: &Fields) -> u32
+/// The bits of REX that the fields need.
+pub fn rex_needed(row: &Row, f: &Fields) -> u32
     ensures { result ≡ rex_needed_of row.now f.now }
 {
     8 * w_needed(row.size, f.w) + 4 * r_needed(row, f) + 2 * x_needed(f.rm) + b_needed(row, f)
@@ -332,7 +334,8 @@ fn high_place(place: Place) -> bool
     }
 }
 
-fn rm_width(op: Op, w: Width) -> Width
+/// The width of the ModRM operand.
+pub fn rm_width(op: Op, w: Width) -> Width
     ensures { result ≡ rm_width_of op w }
 {
     match op {
@@ -341,7 +344,8 @@ fn rm_width(op: Op, w: Width) -> Width
     }
 }
 
-fn needs_rex(row: &Row, f: &Fields) -> bool
+/// A spelling with the fields has REX.
+pub fn needs_rex(row: &Row, f: &Fields) -> bool
     ensures { result ≡ needs_rex_of row.now f.now }
 {
     0 < rex_needed(row, f) || is_low_byte(f.w, f.reg) || low_byte_place(rm_width(row.op, f.w), f.rm)
@@ -353,7 +357,8 @@ fn bars_rex(f: &Fields) -> bool
     is_high(f.reg) || high_place(f.rm)
 }
 
-fn opcode_of(row: &Row, f: &Fields) -> u32
+/// The last byte of the opcode.
+pub fn opcode_of(row: &Row, f: &Fields) -> u32
     ensures { result ≡ opcode_of_fields row.now f.now }
 {
     u32::from(row.opcode)

@@ -4,7 +4,7 @@
 pub mod classes;
 pub mod decoding;
 mod find;
-mod having;
+pub mod having;
 pub mod instruction;
 pub mod kinds;
 pub mod laws;

@@ -1,8 +1,9 @@
-ghost use Rattle.std.specs.Prelude.{◌≡◌};
+ghost use Rattle.std.specs.Prelude.{◌≡◌, ◌≤◌};
+ghost use Rattle.rz_isa.specs.Spelling.{imm_len as imm_len_of};
 ghost use Rattle.rz_isa.specs.Fields.{build_op, place_at as place_of_letter, operand_at as operand_of_letter, reg_at as reg_of_letter, number_of as number_of_reg, number_at as number_of_letter, count_at as count_of_letter, index_at as index_of_letter, letter_width as width_of_letter};
 
 use crate::instruction::{BitIndex, Count, Insn, Operand, Place, Reg};
-use crate::rows::{Letter, Op, Row};
+use crate::rows::{ImmKind, Letter, Op, Row};
 use rz_flags::Cond;
 use rz_num::Width;
 
@@ -79,6 +80,29 @@ fn index_at(letter: Letter, fields: &Fields) -> BitIndex
     match letter {
         Letter::Imm => BitIndex::Imm((fields.imm % 0x100) as u8),
         _ => BitIndex::Reg(number_at(letter, fields)),
+    }
+}
+
+/// How many bytes an immediate has at a width (Intel SDM, volume 2, section 3.1.1.3).
+pub fn imm_len(imm: Option<ImmKind>, w: Width) -> usize
+    ensures value { result ≡ imm_len_of imm w }
+    ensures small { result ≤ 8 }
+{
+    match imm {
+        None => 0,
+        Some(ImmKind::Ib | ImmKind::Ibs | ImmKind::J8) => 1,
+        Some(ImmKind::Iw) => 2,
+        Some(ImmKind::J32) => 4,
+        Some(ImmKind::Iz) => match w {
+            Width::W16 => 2,
+            _ => 4,
+        },
+        Some(ImmKind::Iv) => match w {
+            Width::W8 => 1,
+            Width::W16 => 2,
+            Width::W32 => 4,
+            Width::W64 => 8,
+        },
     }
 }
 

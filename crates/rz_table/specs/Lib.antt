@@ -4,4 +4,6 @@ pub mod Worked
 pub mod Decoded
 pub mod Prefixes
 pub mod Spellings
+pub mod CanonicalRows
+pub mod Reach
 pub mod Laws
