@@ -17,13 +17,22 @@ fn input_of(alloc: Global, text: &[u8]) -> Result<Input, InputError> {
 fn names_the_first_bad_line(rt: HostRuntime) {
     for (text, fault) in [
         (b"".as_slice(), None),
-        (b"#\n\narg\narg 61\nin 62\nreply full\nreply atmost 01\nreply error 4095\n", None),
+        (
+            b"#\n\narg\narg 61\nin 62\nreply full\nreply atmost 01\nreply error 4095\n",
+            None,
+        ),
         (b"arg 61\nin 6", Some(InputError::BadLine(2))),
         (b"reply atmost 0", Some(InputError::BadLine(1))),
         (b"reply error 0", Some(InputError::BadLine(1))),
         (b"reply error 4096", Some(InputError::BadLine(1))),
-        (b"reply atmost 18446744073709551616", Some(InputError::BadLine(1))),
-        (b"reply atmost 000000000000000000001", Some(InputError::BadLine(1))),
+        (
+            b"reply atmost 18446744073709551616",
+            Some(InputError::BadLine(1)),
+        ),
+        (
+            b"reply atmost 000000000000000000001",
+            Some(InputError::BadLine(1)),
+        ),
         (b"reply full 1", Some(InputError::BadLine(1))),
         (b"#\narg ", Some(InputError::BadLine(2))),
         (b"arg 6100", Some(InputError::BadLine(1))),
@@ -59,7 +68,10 @@ fn arguments_take_65536_bytes(rt: HostRuntime) -> Result<(), Fail> {
     }
     let mut lines = long_argument(rt.alloc(), 65_534)?;
     lines.extend_from_slice(b"\narg\narg\narg 00")?;
-    assert_eq!(rt; input_of(rt.alloc(), lines.as_slice()).err(), Some(InputError::TooBig(3)));
+    assert_eq!(rt;
+        input_of(rt.alloc(), lines.as_slice()).err(),
+        Some(InputError::TooBig(3))
+    );
     Ok(())
 }
 
@@ -71,7 +83,10 @@ fn prints_what_it_reads(rt: HostRuntime) -> Result<(), Fail> {
     assert_eq!(rt; input.args.as_slice().len(), 2);
     assert_eq!(rt; input.replies.first(), Reply::AtMost(1));
     let printed = print_input(rt.alloc(), &input)?;
-    assert_eq!(rt; printed.as_slice(), b"arg 4a4b\narg\nin 616263\nreply atmost 1\nreply error 4\n".as_slice());
+    assert_eq!(rt;
+        printed.as_slice(),
+        b"arg 4a4b\narg\nin 616263\nreply atmost 1\nreply error 4\n".as_slice()
+    );
     Ok(())
 }
 
@@ -80,6 +95,9 @@ fn prints_32_bytes_on_a_line(rt: HostRuntime) -> Result<(), Fail> {
     let mut input = Input::empty(rt.alloc());
     input.stdin.push_all(&[0; 33])?;
     let printed = print_input(rt.alloc(), &input)?;
-    assert_eq!(rt; printed.as_slice(), b"in 0000000000000000000000000000000000000000000000000000000000000000\nin 00\n".as_slice());
+    assert_eq!(rt;
+        printed.as_slice(),
+        b"in 0000000000000000000000000000000000000000000000000000000000000000\nin 00\n".as_slice()
+    );
     Ok(())
 }

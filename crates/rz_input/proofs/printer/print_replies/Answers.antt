@@ -1,7 +1,4 @@
-use Rattle.std.proofs.Common.{sym}
-use Rattle.std.specs.List.{AllByRecursion}
 use Rattle.rz_input.specs.declared.entry.Entry.TheVariants as entry
-use Rattle.rz_input.specs.Calls.Printing.{HasWord}
 use Rattle.rz_input.specs.Printed.{ended_line}
 use Rattle.std.proofs.lemmas.List.{nil_from_length}
 use Rattle.rz_sys.specs.declared.input.Reply.{Reply}
@@ -9,9 +6,10 @@ use Rattle.rz_input.proofs.PieceLaws.{printed_more, printed_all}
 use Rattle.rz_input.proofs.printer.print_replies.Goals as goal
 
 pub loop-reply-preserved : goal.loop-reply-preserved
-loop-reply-preserved c =
-    (printed_more (λ (reply : Reply). ended_line (entry.Reply reply)) _ _ _ _ _ _ c.in_ok-print_reply.ensures.text c.in-Some.ensures.steps c.loop-reply.invariant.0,
-     λ rest. c.loop-reply.invariant.1 (rw c.in-Some.ensures.steps (c.in_ok-print_reply.ensures.word, rest)))
+loop-reply-preserved c = (
+  printed_more (λ (reply : Reply). ended_line (entry.Reply reply)) _ _ _ _ _ _ c.in_ok-print_reply.ensures.text c.in-Some.ensures.steps c.loop-reply.invariant.0,
+  λ rest. c.loop-reply.invariant.1 (rw c.in-Some.ensures.steps (c.in_ok-print_reply.ensures.word, rest)),
+)
 
 pub returns : goal.returns
 returns c =

@@ -10,5 +10,5 @@ use Rattle.rz_input.proofs.printer.print_replies.Given as goal
 abbrev pub invariant-loop-reply : goal.invariant-loop-reply
 invariant-loop-reply l =
     (l.text ++ flat_map (λ reply. ended_line (entry.Reply reply)) (deque_iter_rest l.reply-iterator)
-     ≡ l.initial.text ++ flat_map (λ reply. ended_line (entry.Reply reply)) l.replies)
+    ≡ l.initial.text ++ flat_map (λ reply. ended_line (entry.Reply reply)) l.replies)
     × (AllByRecursion HasWord (deque_iter_rest l.reply-iterator) → AllByRecursion HasWord l.replies)

@@ -9,9 +9,10 @@ pub loop-piece-preserved : goal.loop-piece-preserved
 loop-piece-preserved c =
     let step = c.in-Some.ensures.steps in
     let len = rw c.loop-piece.invariant.1 at step.1.1 in
-    let front = pieces-front _ c.in-Some.piece.now _ step.1.0 len step.1.2 in
-    (printed_more (λ (piece : List ℕ). ended_line (entry.Stdin piece)) _ _ _ _ _ _ c.in_ok-print_piece.ensures front c.loop-piece.invariant.0,
-     step.0 ∙ c.loop-piece.invariant.1)
+    let front = pieces-front _ c.in-Some.piece.now _ step.1.0 len step.1.2 in (
+      printed_more (λ (piece : List ℕ). ended_line (entry.Stdin piece)) _ _ _ _ _ _ c.in_ok-print_piece.ensures front c.loop-piece.invariant.0,
+      step.0 ∙ c.loop-piece.invariant.1,
+    )
 
 pub returns : goal.returns
 returns c =

@@ -8,4 +8,4 @@ use Rattle.rz_input.proofs.printer.print_stdin.Given as goal
 abbrev pub invariant-loop-piece : goal.invariant-loop-piece
 invariant-loop-piece l =
     (l.text ++ flat_map (λ piece. ended_line (entry.Stdin piece)) (pieces (chunks_rest l.piece-iterator))
-     ≡ l.initial.text ++ flat_map (λ piece. ended_line (entry.Stdin piece)) (pieces l.bytes)) × (chunks_size l.piece-iterator ≡ 32)
+    ≡ l.initial.text ++ flat_map (λ piece. ended_line (entry.Stdin piece)) (pieces l.bytes)) × (chunks_size l.piece-iterator ≡ 32)
