@@ -1,7 +1,5 @@
 -- Lines of one, two and three words.
-use Rattle.std.proofs.Common.{◌≡◌, ℕ, List, [], ◌∷◌, ◌≢◌, Option, Some, None, slice_get, refl}
-use Rattle.std.specs.Option.{IsSome}
-use Rattle.rz_input.specs.declared.entry.Entry.{Entry}
+use Rattle.std.proofs.Common.{◌≡◌, ℕ, List, [], ◌∷◌, Some, None, slice_get, refl}
 use Rattle.rz_input.specs.Grammar.{entry_of, entry_of_one, entry_of_two, entry_of_three}
 
 pub entry_of-none : (ws : List (List ℕ)) → slice_get ws 0 ≡ None → entry_of ws ≡ None

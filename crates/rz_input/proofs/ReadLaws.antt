@@ -1,21 +1,19 @@
 -- Reading an input text line by line.
-use Rattle.std.proofs.Common.{◌≡◌, ℕ, ◌≤◌, ◌++◌, Bool, true, false, List, [], ◌∷◌, length, nat_lt, Option, Some, None, refl, sym, ap, ◌∙◌, append-nil, arith}
+use Rattle.std.proofs.Common.{◌≡◌, ℕ, ◌≤◌, ◌++◌, true, List, [], ◌∷◌, length, Option, Some, None, refl, sym, ap, ◌∙◌, append-nil}
 use Rattle.std.specs.Prelude.{flat_map}
 use Rattle.std.specs.List.{filter_map, cons_option}
-use Rattle.std.specs.Option.{option_to_list}
 use Rattle.std.proofs.lemmas.List.Elements.{filter_map-append}
 use Rattle.std.proofs.lemmas.List.Concat.{flat_map-append}
-use Rattle.rz_text.specs.Lines.{Line, content, has_content, lines_from, words}
-use Rattle.rz_text.proofs.Reading.{IsRead, IsRead-start, IsRead-pass, IsRead-more, IsRead-fault, IsRead-end}
+use Rattle.rz_text.specs.Lines.{Line, has_content, lines_from, words}
+use Rattle.rz_text.proofs.Reading.{IsRead, IsRead-start, IsRead-more}
 use Rattle.rz_sys.specs.declared.input.Input.{Input}
 use Rattle.rz_sys.specs.declared.input.Reply.{Reply as ReplyOf}
 use Rattle.rz_sys.specs.Input.{IsValid, strings}
 use Rattle.rz_input.specs.declared.entry.Entry.{Entry}
 use Rattle.rz_input.specs.declared.entry.Entry.TheVariants.{Arg, Stdin, Reply}
-use Rattle.rz_input.specs.declared.error.InputError.{InputError}
 use Rattle.rz_input.specs.Grammar.{entry_of}
-use Rattle.rz_input.specs.Fault.{fault_behind, fault_of, fault_of_line}
-use Rattle.rz_input.specs.Value.{arg_of, entries, input_from, input_of, reply_of, stdin_of}
+use Rattle.rz_input.specs.Fault.{fault_behind, fault_of_line}
+use Rattle.rz_input.specs.Value.{arg_of, entries, input_from, reply_of, stdin_of}
 use Rattle.rz_input.specs.Calls.Draft.{with_entry, with_some}
 use Rattle.rz_input.proofs.ValidLaws.{IsValid-lines}
 

@@ -1,17 +1,14 @@
 -- Printed lines are read as what they say.
-use Rattle.std.proofs.Common.{◌≡◌, ℕ, zero, suc, ◌+◌, ◌*◌, ◌/◌, ◌%◌, ◌^◌, ◌<◌, ◌≤◌, ◌==◌, ◌&&◌, ◌||◌, not, Bool, true, false, cond, List, [], ◌∷◌, ◌++◌, length, get_or, map, nat_lt, Option, Some, None, Result, Ok, Err, refl, sym, ap, ◌∙◌, append-nil, lit<, arith, rules}
-use Rattle.std.specs.Prelude.{nat_le, codes, bytes_eq, slice_index}
+use Rattle.std.proofs.Common.{◌≡◌, ℕ, zero, suc, ◌/◌, ◌%◌, ◌^◌, ◌<◌, ◌==◌, true, false, List, [], ◌∷◌, ◌++◌, length, Some, refl, ap, ◌∙◌, append-nil, lit<, arith, rules}
+use Rattle.std.specs.Prelude.{nat_le, codes, slice_index}
 use Rattle.std.specs.List.{All, AllByRecursion, list_any, join_with_byte}
-use Rattle.std.specs.Char.{digit_value}
 use Rattle.std.specs.Fmt.{digits}
 use Rattle.std.specs.Str.Parse.{AllDigits}
-use Rattle.std.proofs.lemmas.Bool.{lt-ltb}
 use Rattle.std.proofs.lemmas.Fmt.{decimal_is_IsNumeral}
 use Rattle.std.proofs.lemmas.List.Elements.{All-from_recursion}
-use Rattle.hex.specs.Hex.{decode_of, encode_lower, encode_with, hex_digit_value, lower_digits, IsBytes}
+use Rattle.hex.specs.Hex.{encode_lower, encode_with, hex_digit_value, lower_digits, IsBytes}
 use Rattle.hex.proofs.HexLemmas.{decode_of-encode_lower, IsDigits-lower_digits}
 use Rattle.rz_text.specs.Lines.{has_content, words}
-use Rattle.rz_text.specs.Number.{decimal}
 use Rattle.rz_text.proofs.LineLaws.{words-joined}
 use Rattle.rz_text.proofs.NumberLaws.{decimal-printed}
 use Rattle.rz_sys.specs.Input.{IsValidReply}
@@ -19,7 +16,7 @@ use Rattle.rz_sys.specs.declared.input.Reply.{Reply as ReplyOf}
 use Rattle.rz_sys.specs.declared.input.Reply.TheVariants.{Full, AtMost, Error}
 use Rattle.rz_input.specs.declared.entry.Entry.{Entry}
 use Rattle.rz_input.specs.declared.entry.Entry.TheVariants.{Arg, Stdin, Reply}
-use Rattle.rz_input.specs.Grammar.{argument, bytes_of, entry_of, input_bytes, numbered_reply, some_bytes}
+use Rattle.rz_input.specs.Grammar.{argument, bytes_of, entry_of, input_bytes, some_bytes}
 use Rattle.rz_input.specs.Calls.Printing.{HasWord}
 use Rattle.rz_input.specs.Printed.{entry_line, entry_words, reply_words}
 

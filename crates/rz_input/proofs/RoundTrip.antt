@@ -1,13 +1,13 @@
 -- A printed input is read as itself.
-use Rattle.std.proofs.Common.{◌≡◌, ℕ, zero, suc, ◌+◌, ◌<◌, ◌≤◌, Bool, true, false, List, [], ◌∷◌, ◌++◌, length, map, take, drop, nat_lt, Option, Some, None, length-append, length-drop, length-take, subst, ◌==◌, append-nil, append_assoc, refl, sym, ap, ◌∙◌, arith}
+use Rattle.std.proofs.Common.{◌≡◌, ℕ, zero, suc, ◌+◌, ◌<◌, ◌≤◌, false, List, [], ◌∷◌, ◌++◌, length, map, take, drop, nat_lt, Option, Some, None, length-append, length-drop, length-take, subst, ◌==◌, append-nil, append_assoc, refl, sym, ap, ◌∙◌, arith}
 use Rattle.std.specs.Prelude.{flat_map}
 use Rattle.std.specs.List.{All, AllByRecursion, enumerate_from, filter_map}
 use Rattle.std.proofs.lemmas.Bool.{le-ltb}
 use Rattle.std.proofs.lemmas.List.{take-append-drop}
 use Rattle.std.proofs.lemmas.List.Concat.{flat_map-append}
 use Rattle.std.proofs.lemmas.List.Elements.{filter_map-append}
-use Rattle.rz_text.specs.Lines.{Line, content, content_of, has_content, lines, words}
-use Rattle.rz_text.specs.Fault.{first_fault, or_else}
+use Rattle.rz_text.specs.Lines.{Line, content, content_of, lines}
+use Rattle.rz_text.specs.Fault.{first_fault}
 use Rattle.rz_text.proofs.LineLaws.{lines-ended}
 use Rattle.rz_sys.specs.Input.{IsValid, IsValidReply, strings}
 use Rattle.rz_sys.specs.declared.input.Input.{Input}
@@ -16,10 +16,9 @@ use Rattle.rz_input.specs.declared.entry.Entry.{Entry}
 use Rattle.rz_input.specs.declared.entry.Entry.TheVariants.{Arg, Stdin, Reply}
 use Rattle.rz_input.specs.Calls.Draft.{with_entry, with_some}
 use Rattle.rz_input.specs.Calls.Printing.{HasWord}
-use Rattle.rz_input.specs.Fault.{fault_behind, fault_of, fault_of_line}
-use Rattle.rz_input.specs.Grammar.{entry_of}
-use Rattle.rz_input.specs.Printed.{IsReadAs, ended_line, entry_line, pieces, pieces_within, printed, printed_entries}
-use Rattle.rz_input.specs.Value.{arg_of, entries, input_from, input_of, reply_of, stdin_of}
+use Rattle.rz_input.specs.Fault.{fault_behind, fault_of_line}
+use Rattle.rz_input.specs.Printed.{IsReadAs, entry_line, pieces, pieces_within, printed, printed_entries}
+use Rattle.rz_input.specs.Value.{arg_of, entries, input_from, reply_of, stdin_of}
 use Rattle.rz_input.proofs.PieceLaws.{flat_map-map}
 use Rattle.rz_input.proofs.ReadLaws.{input_from-more, input_same}
 use Rattle.rz_input.proofs.Readable.{IsPrintable, entry_of-line, has_content-line, no_end-line}

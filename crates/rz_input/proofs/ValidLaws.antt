@@ -1,5 +1,5 @@
 -- What a line says is valid.
-use Rattle.std.proofs.Common.{◌≡◌, ℕ, zero, suc, ◌+◌, ◌<◌, ◌≤◌, ◌==◌, ◌&&◌, ◌||◌, Bool, true, false, cond, List, [], ◌∷◌, ◌++◌, length, Option, Some, None, Result, Ok, Err, refl, sym, ap, ◌∙◌, inl, inr, arith}
+use Rattle.std.proofs.Common.{◌≡◌, ℕ, suc, ◌<◌, ◌≤◌, ◌==◌, ◌&&◌, Bool, true, false, cond, List, [], ◌∷◌, ◌++◌, length, Option, Some, None, Result, Ok, Err, refl, arith}
 use Rattle.std.specs.Prelude.{nat_le, codes, bytes_eq}
 use Rattle.std.specs.List.{AllByRecursion, cons_option, list_any}
 use Rattle.std.proofs.lemmas.Bool.{and_parts, leb-true}
@@ -9,11 +9,11 @@ use Rattle.hex.proofs.HexLemmas.{decode_of-ok}
 use Rattle.rz_text.specs.Lines.{Line, words}
 use Rattle.rz_text.specs.Number.{decimal}
 use Rattle.rz_sys.specs.Input.{IsValid, IsValidReply, strings}
-use Rattle.rz_sys.specs.declared.input.Reply.TheVariants.{Full, AtMost, Error}
+use Rattle.rz_sys.specs.declared.input.Reply.TheVariants.{Full}
 use Rattle.rz_input.specs.declared.entry.Entry.{Entry}
 use Rattle.rz_input.specs.declared.entry.Entry.TheVariants.{Arg, Stdin, Reply}
-use Rattle.rz_input.specs.Grammar.{argument, bytes_of, entry_of, entry_of_one, entry_of_two, entry_of_three, input_bytes, numbered_reply, some_bytes}
-use Rattle.rz_input.specs.Value.{arg_of, entries, input_from, reply_of, stdin_of}
+use Rattle.rz_input.specs.Grammar.{argument, bytes_of, entry_of, entry_of_two, input_bytes, numbered_reply, some_bytes}
+use Rattle.rz_input.specs.Value.{entries, input_from}
 
 -- entries that a valid input can have
 abbrev pub IsValidEntry : Entry → Type 0

@@ -1,5 +1,5 @@
 -- The input that lines give.
-use Rattle.std.specs.Prelude.{ℕ, List, [], ◌∷◌, ◌++◌, flat_map, Option, Some, None}
+use Rattle.std.specs.Prelude.{ℕ, List, [], flat_map, Option, Some, None}
 use Rattle.std.specs.List.{filter_map}
 use Rattle.rz_text.specs.Lines.{Line, content, words}
 use Rattle.rz_sys.specs.declared.input.Input.{Input}

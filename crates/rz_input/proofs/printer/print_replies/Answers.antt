@@ -1,7 +1,4 @@
-use Rattle.std.proofs.Common.{sym}
-use Rattle.std.specs.List.{AllByRecursion}
 use Rattle.rz_input.specs.declared.entry.Entry.TheVariants as entry
-use Rattle.rz_input.specs.Calls.Printing.{HasWord}
 use Rattle.rz_input.specs.Printed.{ended_line}
 use Rattle.std.proofs.lemmas.List.{nil_from_length}
 use Rattle.rz_sys.specs.declared.input.Reply.{Reply}

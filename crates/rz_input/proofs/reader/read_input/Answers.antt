@@ -1,4 +1,4 @@
-use Rattle.std.proofs.Common.{◌≡◌, ◌≤◌, ◌∷◌, length, true, arith, rules}
+use Rattle.std.proofs.Common.{◌≡◌, true, arith, rules}
 use Rattle.rz_text.specs.Lines.{has_content}
 use Rattle.rz_input.proofs.ReadLaws.{IsDraft-more, IsDraft-valid}
 use Rattle.rz_input.proofs.reader.read_input.Goals as goal
