@@ -23,7 +23,7 @@ use Rattle.rz_isa.proofs.Tests.{some_same, and_both}
 use Rattle.rz_decode.specs.declared.front.Front as fronts
 use Rattle.rz_decode.specs.declared.front.Opcode as opcodes
 use Rattle.rz_decode.specs.Calls.Decode.{Says, ListsServing, EndsBeforeOpcode}
-use Rattle.rz_decode.specs.Views.{opcode_option, front_view, is_whole_rm}
+use Rattle.rz_decode.specs.Calls.Views.{opcode_option, front_view, is_whole_rm}
 use Rattle.rz_decode.proofs.Filling.{last_byte, suits_of}
 use Rattle.rz_decode.proofs.Room.{imm_eight}
 use Rattle.rz_decode.proofs.Verdicts.{Laws, Verdict, named, begun, unserved, verdict_by, whole_of}

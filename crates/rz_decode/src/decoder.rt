@@ -2,7 +2,7 @@ ghost use Rattle.std.specs.Prelude.{◌≡◌, ◌<◌, ◌≤◌, ℕ, Some, le
 ghost use Rattle.rz_isa.specs.Regular.{is_regular};
 ghost use Rattle.rz_isa.specs.Decoded.{front_at, serves as serves_bytes, decoded_by, decoded};
 ghost use Rattle.rz_isa.specs.DecodedLaws.{Exact};
-ghost use Rattle.rz_decode.specs.Views.{front_view};
+ghost use Rattle.rz_decode.specs.Calls.Views.{front_view};
 ghost use Rattle.rz_decode.specs.Calls.Decode.{IsFront, Says, ListsServing, EndsBeforeOpcode};
 
 use crate::field::fields;

@@ -1,6 +1,6 @@
 ghost use Rattle.std.specs.Prelude.{◌≡◌, ◌<◌, ◌≤◌, length, IsTrue};
 ghost use Rattle.rz_isa.specs.Fields.{imm_of as imm_by, rm_place as rm_place_of, reg_field as reg_field_of, reg_number as reg_number_of, repeat_in as repeat_among, rep_of as rep_by, fields as fields_by};
-ghost use Rattle.rz_decode.specs.Views.{parts_view, is_whole_rm};
+ghost use Rattle.rz_decode.specs.Calls.Views.{parts_view, is_whole_rm};
 
 use crate::fit::width;
 use crate::front::times;

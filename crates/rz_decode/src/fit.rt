@@ -2,7 +2,7 @@ ghost use Rattle.std.specs.Prelude.{◌≡◌, ◌≤◌, length};
 ghost use Rattle.rz_isa.specs.Spelling.{bit_w as bit_w_of, times as times_among, escape, is_met, most as most_of, most_66 as most_66_of, most_67 as most_67_of, takes_66 as takes_66_by, is_allowed as is_allowed_by, f3_demand, prefixes_fit as prefixes_fit_row, w_demand, b_demand, opcode_fits as opcode_fits_row, disp_len as disp_len_of, rm_len as rm_len_of, second as second_of, rule_fits as rule_fits_byte, width_of as width_by};
 ghost use Rattle.rz_isa.specs.Table.{same_map as same_maps};
 ghost use Rattle.rz_isa.specs.Decoded.{takes_rm as takes_rm_of, rm_part as rm_part_of, imm_part as imm_part_of, front_len as front_len_of, suits as suits_row};
-ghost use Rattle.rz_decode.specs.Views.{front_view};
+ghost use Rattle.rz_decode.specs.Calls.Views.{front_view};
 
 use crate::front::{Front, times};
 use crate::rex::{bit_b, bit_w};

@@ -2,7 +2,7 @@ ghost use Rattle.std.specs.Prelude.{◌≡◌, ◌++◌, ◌∷◌, [], ◌<◌,
 ghost use Rattle.rz_isa.specs.Spelling.{is_prefix as is_prefix_byte, is_rex as is_rex_byte, times as times_among};
 ghost use Rattle.rz_isa.specs.Reading.{rex_at, behind_rex, skip_while, opcode_at as opcode_of_bytes};
 ghost use Rattle.rz_isa.specs.Decoded.{least_rex as least_rex_of, last_opcode as last_opcode_of, opcode_for as opcode_by_row, front_by};
-ghost use Rattle.rz_decode.specs.Views.{opcode_view, opcode_option, front_view};
+ghost use Rattle.rz_decode.specs.Calls.Views.{opcode_view, opcode_option, front_view};
 
 use rz_isa::{F3Rule, OpMap, Row, Size};
 

@@ -1,6 +1,6 @@
 ghost use Rattle.std.specs.Prelude.{◌≡◌, ◌<◌, ◌≤◌, ◌/◌, ◌^◌, length, IsTrue};
 ghost use Rattle.rz_isa.specs.Fields.{reg_of as reg_by, index_of as index_by, sib_mem as sib_mem_of, base_mem as base_mem_of, place_of as place_by};
-ghost use Rattle.rz_decode.specs.Views.{is_whole_rm};
+ghost use Rattle.rz_decode.specs.Calls.Views.{is_whole_rm};
 
 use crate::fit::second;
 use crate::number::{extended, signed};

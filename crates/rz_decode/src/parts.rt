@@ -1,6 +1,6 @@
 ghost use Rattle.std.specs.Prelude.{◌≡◌, take, drop};
 ghost use Rattle.rz_isa.specs.Decoded.{parts_of as parts_by};
-ghost use Rattle.rz_decode.specs.Views.{front_view, parts_view};
+ghost use Rattle.rz_decode.specs.Calls.Views.{front_view, parts_view};
 
 use crate::fit::{imm_part, rm_part};
 use crate::front::Front;

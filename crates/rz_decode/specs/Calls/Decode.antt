@@ -6,7 +6,7 @@ use Rattle.rz_isa.specs.Spelling.{is_prefix}
 use Rattle.rz_isa.specs.Decoded.{front_at, serves, decoded_by}
 use Rattle.rz_isa.specs.Index.{is_listed}
 use Rattle.rz_decode.specs.declared.front.Front as fronts
-use Rattle.rz_decode.specs.Views.{front_view}
+use Rattle.rz_decode.specs.Calls.Views.{front_view}
 
 -- the front of the bytes, the same by every row, since they have an opcode
 abbrev pub IsFront : List ℕ → fronts.Front → Type 0

@@ -1,5 +1,5 @@
 use Rattle.std.proofs.Common.{arith}
-use Rattle.rz_decode.specs.Views.{front_view, parts_view}
+use Rattle.rz_decode.specs.Calls.Views.{front_view, parts_view}
 use Rattle.rz_decode.proofs.Rows.{rm_ok, bytes_from}
 use Rattle.rz_decode.proofs.decoder.decode_whole.Goals as goal
 
