@@ -9,10 +9,10 @@ use crate::segments::kept_count;
 use rz_elf::elf::{Elf, Load};
 use rz_elf::room::Extent;
 
-/// The bytes of a page.
+// The bytes of a page.
 const PAGE: u64 = 4096;
 
-/// What a file takes, which says whether there is room for added parts.
+/// What a file takes, which says whether there is room for added parts. It takes no memory.
 pub fn extent_of(elf: &Elf) -> Extent
     ensures { result ≡ extent_of elf.now.bytes }
 {
@@ -25,15 +25,15 @@ pub fn extent_of(elf: &Elf) -> Extent
     }
 }
 
-/// The address where the page of an address begins.
-pub fn page_floor(a: u64) -> u64
+// The address where the page of an address begins.
+fn page_floor(a: u64) -> u64
     ensures { result ≡ floor_of a }
 {
     a - a % PAGE
 }
 
-/// The address where the lowest load begins; 0 where there is none.
-pub fn lowest_load(loads: &[Load]) -> u64
+// The address where the lowest load begins; 0 where there is none.
+fn lowest_load(loads: &[Load]) -> u64
     ensures { (bytes : List ℕ) → lowest (map (loaded_region bytes) loads.now) ≡ result }
 {
     let [first, rest @ ..] = loads else {
