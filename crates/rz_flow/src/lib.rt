@@ -4,3 +4,6 @@
 mod flow;
 
 pub use flow::Flow;
+
+#[cfg(test)]
+mod tests;
