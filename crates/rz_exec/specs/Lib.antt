@@ -1,0 +1,16 @@
+pub mod Form
+pub mod Attempts
+pub mod Registers
+pub mod Operands
+pub mod Moves
+pub mod Arithmetic
+pub mod Stack
+pub mod Products
+pub mod Shifts
+pub mod Conditions
+pub mod Exchanges
+pub mod Bits
+pub mod Strings
+pub mod FlagChanges
+pub mod Effect
+pub mod Fault
