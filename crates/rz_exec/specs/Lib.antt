@@ -14,3 +14,4 @@ pub mod Strings
 pub mod FlagChanges
 pub mod Effect
 pub mod Fault
+pub mod Laws
