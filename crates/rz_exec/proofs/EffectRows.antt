@@ -1,5 +1,5 @@
 -- Effects of plain instructions evaluated, with values by hand from the Intel SDM: each group, its edges and its order.
-use Rattle.std.proofs.Common.{◌≡◌, ℕ, pos, count_ones, ◌%◌, ◌==◌, Bool, true, false, List, [], ◌∷◌, Option, Some, None, refl}
+use Rattle.std.proofs.Common.{◌≡◌, ℕ, pos, count_ones, ◌%◌, ◌==◌, Bool, true, false, List, [], ◌∷◌, Some, None, refl}
 use Rattle.rz_num.specs.declared.width.Width.TheVariants.{W8, W16, W32, W64}
 use Rattle.rz_flags.specs.declared.Flags.{Flags}
 use Rattle.rz_flags.specs.declared.ArithOp.TheVariants as arith
@@ -15,13 +15,12 @@ use Rattle.rz_image.specs.Memory.{Regions, cell_at, put_byte, refused, bytes_at,
 use Rattle.rz_isa.specs.declared.instruction.Reg.TheVariants.{R, High}
 use Rattle.rz_isa.specs.declared.instruction.Place.{Place}
 use Rattle.rz_isa.specs.declared.instruction.Place.TheVariants as place
-use Rattle.rz_isa.specs.declared.instruction.Operand.{Operand}
 use Rattle.rz_isa.specs.declared.instruction.Operand.TheVariants as operand
 use Rattle.rz_isa.specs.declared.instruction.Count.TheVariants as count
 use Rattle.rz_isa.specs.declared.instruction.BitIndex.TheVariants as index
 use Rattle.rz_isa.specs.declared.instruction.Insn.{Insn}
 use Rattle.rz_isa.specs.declared.instruction.Insn.TheVariants as insn
-use Rattle.rz_exec.specs.Form.{Completion, Exception, Memory, Own, Divide, Popped, carry, iterate, complete}
+use Rattle.rz_exec.specs.Form.{Completion, Memory, Own, Divide, Popped, carry, iterate, complete}
 use Rattle.rz_exec.specs.Effect.{plain_effect}
 
 -- RAX, RCX, RDX, RSP, RBP, RSI and RDI; the others are 0

@@ -1,5 +1,5 @@
 -- The accesses that an effect attempts, allowed or not, and that none of them has a byte in a range.
-use Rattle.std.specs.Prelude.{◌≡◌, ℕ, zero, suc, Bool, true, false, List, get_or, Option, Some, None, Result, Ok, Err}
+use Rattle.std.specs.Prelude.{ℕ, zero, suc, Bool, true, false, List, get_or, Option, Some, None, Result, Ok, Err}
 use Rattle.rz_flags.specs.declared.Flags.{Flags}
 use Rattle.rz_image.specs.Memory.{Regions, Range, IsClear}
 use Rattle.rz_image.specs.Word.{byte_count}

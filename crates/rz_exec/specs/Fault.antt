@@ -1,5 +1,5 @@
 -- Faults as the form's exceptions, and what stands after a call as a completion.
-use Rattle.std.specs.Prelude.{Option, Some, None, Result, Ok, Err}
+use Rattle.std.specs.Prelude.{Option, Some, None}
 use Rattle.rz_image.specs.Memory.{Regions}
 use Rattle.rz_exec.specs.declared.state.Cpu.{Cpu}
 use Rattle.rz_exec.specs.declared.state.Fault.{Fault}

@@ -8,7 +8,7 @@ use Rattle.rz_flags.specs.declared.Flags.{Flags}
 use Rattle.rz_flags.specs.declared.WideOp.{WideOp}
 use Rattle.rz_flags.specs.declared.WideOp.TheVariants.{Mul, Imul, Div, Idiv}
 use Rattle.rz_alu.specs.Multiply.{product_flags}
-use Rattle.rz_isa.specs.declared.instruction.Reg.TheVariants.{R, High}
+use Rattle.rz_isa.specs.declared.instruction.Reg.TheVariants.{High}
 use Rattle.rz_isa.specs.declared.instruction.Place.{Place}
 use Rattle.rz_exec.specs.Form.{NewValues, Stop, Divide, Effect}
 use Rattle.rz_exec.specs.Registers.{put_reg, put_named}

@@ -3,7 +3,7 @@ use Rattle.std.proofs.Common.{◌≡◌, ℕ, zero, suc, Bool, true, false, List
 use Rattle.byteorder.specs.Endian.{little_bytes, little_number}
 use Rattle.byteorder.specs.Numbers.{length-bytes_low_first}
 use Rattle.rz_flags.specs.declared.Flags.{Flags}
-use Rattle.rz_image.specs.Memory.{Regions, Range, IsClear, Alike, bytes_at, refused, is_readable, is_writable, put_bytes}
+use Rattle.rz_image.specs.Memory.{Regions, Range, IsClear, Alike, refused, is_writable, put_bytes}
 use Rattle.rz_image.specs.Word.{byte_count}
 use Rattle.rz_image.specs.Laws.Puts.{alike_puts}
 use Rattle.rz_image.specs.Laws.Alike.{alike_bytes, alike_readable, alike_writable}

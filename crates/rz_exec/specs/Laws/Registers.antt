@@ -1,5 +1,5 @@
 -- Registers stay sixteen words below 2^64, whatever plain instruction runs.
-use Rattle.std.proofs.Common.{◌≡◌, ℕ, zero, suc, Bool, true, false, if◌then◌else◌, List, [], ◌∷◌, length, get_or, set, Option, Some, None, Result, Ok, Err, ◌∙◌, arith, length-set}
+use Rattle.std.proofs.Common.{ℕ, zero, suc, Bool, true, false, if◌then◌else◌, List, [], ◌∷◌, get_or, set, Option, Some, None, Result, Ok, Err, ◌∙◌, arith, length-set}
 use Rattle.std.specs.List.{AllByRecursion}
 use Rattle.rz_num.specs.declared.width.Width.{Width}
 use Rattle.rz_num.specs.declared.width.Width.TheVariants.{W8, W16, W32, W64}
@@ -15,12 +15,12 @@ use Rattle.rz_isa.specs.declared.instruction.Place.{Place}
 use Rattle.rz_isa.specs.declared.instruction.Place.TheVariants as places
 use Rattle.rz_isa.specs.declared.instruction.Insn.{Insn}
 use Rattle.rz_isa.specs.declared.instruction.Insn.TheVariants as insns
-use Rattle.rz_exec.specs.Form.{WordAt, NewValues, Stop, Exception, Effect, Completion, read_word, write_word, carry}
-use Rattle.rz_exec.specs.Form.{after_write, after_gives, after_second, after_first, if_follows, and_then, iterate, PlainEffect, Repeat, complete}
+use Rattle.rz_exec.specs.Form.{NewValues, Stop, Exception, Effect, Completion, read_word, write_word, carry}
+use Rattle.rz_exec.specs.Form.{after_write, after_gives, after_second, after_first, if_follows, and_then, iterate, Repeat, complete}
 use Rattle.rz_exec.specs.Registers.{IsWord, AreRegs, merge, merge_high, put_reg, put_named}
 use Rattle.rz_exec.specs.Operands.{put, value_of}
 use Rattle.rz_exec.specs.Arithmetic.{is_written}
-use Rattle.rz_exec.specs.Stack.{popped, taken_flags}
+use Rattle.rz_exec.specs.Stack.{taken_flags}
 use Rattle.rz_exec.specs.Products.{put_pair, quotient_values, divided, wide_values}
 use Rattle.rz_exec.specs.Bits.{is_changed, is_found}
 use Rattle.rz_exec.specs.Strings.{moved, counted, movs_effect, stos_effect, elements}
