@@ -11,7 +11,7 @@ use Rattle.rz_num.specs.Width.{low_bits, sign_extended}
 use Rattle.rz_flags.specs.declared.ArithOp.{ArithOp}
 use Rattle.rz_flags.specs.declared.ArithOp.TheVariants.{Add, Or, Adc, Sbb, And, Sub, Xor, Cmp}
 use Rattle.rz_flags.specs.Cond.{cond_of, number_of}
-use Rattle.rz_flags.specs.CondLaws.{cond_of-number_of, number_of-low}
+use Rattle.rz_flags.specs.Laws.Cond.{cond_of-number_of, number_of-low}
 use Rattle.rz_machine.specs.declared.insn.Reg.TheVariants.{R}
 use Rattle.rz_machine.specs.declared.insn.Place.TheVariants as place
 use Rattle.rz_machine.specs.declared.insn.Operand.TheVariants.{Imm}
