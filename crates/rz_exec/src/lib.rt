@@ -5,6 +5,7 @@ mod arithmetic;
 mod bits;
 mod conditions;
 mod exchanges;
+mod exec;
 mod flag_changes;
 mod memory;
 mod moves;
@@ -16,4 +17,5 @@ mod stack;
 mod state;
 mod strings;
 
+pub use exec::exec_plain;
 pub use state::{Cpu, Fault};

@@ -1,7 +1,7 @@
 //! Rotates, shifts and double shifts.
 
 ghost use Rattle.std.specs.Prelude.{◌≡◌, IsTrue};
-ghost use Rattle.rz_exec.specs.Shifts.{count_in as count_by, shift_effect, double_shift_effect};
+ghost use Rattle.rz_exec.specs.Shifts.{count_in as count_by, shift_effect, double_effect};
 ghost use Rattle.rz_exec.specs.Effect.{is_reg, is_named_place};
 ghost use Rattle.rz_exec.specs.Calls.Carried.{ended, carried};
 
@@ -58,7 +58,7 @@ pub(crate) fn double_shift(
 ) -> Result<(), Fault>
     requires dst { IsTrue (is_named_place dst) }
     requires src { IsTrue (is_reg src) }
-    ensures done { ended cpu.new mem.new result ≡ carried (double_shift_effect left w dst src count) cpu.old mem.old }
+    ensures done { ended cpu.new mem.new result ≡ carried (double_effect left w dst src count) cpu.old mem.old }
     ensures rip { cpu.new.rip ≡ cpu.old.rip }
 {
     let at = address_of(&cpu.regs, dst);

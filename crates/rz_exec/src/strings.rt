@@ -1,10 +1,10 @@
 //! Elements of strings.
 
-ghost use Rattle.std.specs.Prelude.{◌≡◌, IsTrue};
+ghost use Rattle.std.specs.Prelude.{◌≡◌, IsTrue, true};
 ghost use Rattle.rz_image.specs.Word.{byte_count as byte_count_of};
 ghost use Rattle.rz_exec.specs.Strings.{moved, counted, movs_effect, stos_effect};
 ghost use Rattle.rz_exec.specs.Effect.{is_reg};
-ghost use Rattle.rz_exec.specs.Calls.Carried.{ended, carried};
+ghost use Rattle.rz_exec.specs.Calls.Carried.{ended, carried, repeated};
 
 use crate::memory::{read, write};
 use crate::registers::{get_reg, put_reg};
@@ -80,5 +80,33 @@ pub(crate) fn stos(w: Width, rep: bool, cpu: &mut Cpu, mem: &mut Memory) -> Resu
     write(mem, w, Some(cpu.regs[7]), word)?;
     move_on(w, cpu.flags, RDI, &mut cpu.regs);
     count_down(rep, &mut cpu.regs);
+    Ok(())
+}
+
+// As many elements as RCX says, up to one that faults.
+pub(crate) fn rep_movs(w: Width, cpu: &mut Cpu, mem: &mut Memory) -> Result<(), Fault>
+    ensures done { ended cpu.new mem.new result ≡ repeated (movs_effect w true) cpu.old mem.old }
+    ensures rip { cpu.new.rip ≡ cpu.old.rip }
+{
+    let count = cpu.regs[1];
+    for _ in 0..count {
+        if let Err(fault) = movs(w, true, cpu, mem) {
+            return Err(fault);
+        }
+    }
+    Ok(())
+}
+
+// As many elements as RCX says, up to one that faults.
+pub(crate) fn rep_stos(w: Width, cpu: &mut Cpu, mem: &mut Memory) -> Result<(), Fault>
+    ensures done { ended cpu.new mem.new result ≡ repeated (stos_effect w true) cpu.old mem.old }
+    ensures rip { cpu.new.rip ≡ cpu.old.rip }
+{
+    let count = cpu.regs[1];
+    for _ in 0..count {
+        if let Err(fault) = stos(w, true, cpu, mem) {
+            return Err(fault);
+        }
+    }
     Ok(())
 }

@@ -4,7 +4,8 @@ use Rattle.rz_flags.specs.declared.Flags.{Flags}
 use Rattle.rz_image.specs.Memory.{Regions}
 use Rattle.rz_exec.specs.declared.state.Cpu.{Cpu}
 use Rattle.rz_exec.specs.declared.state.Fault.{Fault}
-use Rattle.rz_exec.specs.Form.{Effect, Completion, carry}
+use Rattle.rz_exec.specs.Form.{Effect, Completion, carry, Repeats, complete}
+use Rattle.rz_exec.specs.Strings.{each_time}
 use Rattle.rz_exec.specs.Fault.{completion}
 
 abbrev pub fault_in : {A : Type 0} → Result A Fault → Option Fault
@@ -18,3 +19,7 @@ ended cpu m result = completion cpu m (fault_in result)
 -- an effect carried out from a state
 abbrev pub carried : (List ℕ → Flags → Effect) → Cpu → Regions → Completion
 carried effect cpu m = carry (effect cpu.regs cpu.flags) cpu.regs cpu.flags m
+
+-- an effect repeated from a state
+abbrev pub repeated : (List ℕ → Flags → Effect) → Cpu → Regions → Completion
+repeated each cpu m = complete (Repeats (each_time each)) cpu.regs cpu.flags m
