@@ -1,1 +1,2 @@
 pub mod EffectRows
+pub mod Repeats

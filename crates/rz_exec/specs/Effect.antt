@@ -18,7 +18,7 @@ use Rattle.rz_exec.specs.Moves.{mov_effect, lea_effect, extend_effect, convert_e
 use Rattle.rz_exec.specs.Arithmetic.{arith_effect, test_effect, unary_effect}
 use Rattle.rz_exec.specs.Stack.{push_effect, pop_effect, leave_effect, push_flags_effect, pop_flags_effect}
 use Rattle.rz_exec.specs.Products.{wide_effect, imul2_effect, imul3_effect}
-use Rattle.rz_exec.specs.Shifts.{shift_effect, double_shift_effect}
+use Rattle.rz_exec.specs.Shifts.{shift_effect, double_effect}
 use Rattle.rz_exec.specs.Conditions.{cmov_effect, set_effect}
 use Rattle.rz_exec.specs.Exchanges.{xchg_effect, bswap_effect}
 use Rattle.rz_exec.specs.Bits.{bit_test_effect, scan_effect}
@@ -37,13 +37,13 @@ plain_effect (insns.Push src) regs flags = Once (push_effect src regs flags)
 plain_effect (insns.Pop dst) regs flags = Once (pop_effect dst regs flags)
 plain_effect insns.Leave regs flags = Once (leave_effect regs flags)
 plain_effect insns.PushFlags regs flags = Once (push_flags_effect regs flags)
-plain_effect insns.PopFlags regs flags = Once (pop_flags_effect regs)
+plain_effect insns.PopFlags regs flags = Once (pop_flags_effect regs flags)
 plain_effect (insns.Unary op w dst) regs flags = Once (unary_effect op w dst regs flags)
 plain_effect (insns.Wide op w src) regs flags = Once (wide_effect op w src regs flags)
 plain_effect (insns.Imul2 w dst src) regs flags = Once (imul2_effect w dst src regs flags)
 plain_effect (insns.Imul3 w dst src imm) regs flags = Once (imul3_effect w dst src imm regs flags)
 plain_effect (insns.Shift op w dst count) regs flags = Once (shift_effect op w dst count regs flags)
-plain_effect (insns.DoubleShift left w dst src count) regs flags = Once (double_shift_effect left w dst src count regs flags)
+plain_effect (insns.DoubleShift left w dst src count) regs flags = Once (double_effect left w dst src count regs flags)
 plain_effect (insns.Cmov cond w dst src) regs flags = Once (cmov_effect cond w dst src regs flags)
 plain_effect (insns.Set cond dst) regs flags = Once (set_effect cond dst regs flags)
 plain_effect (insns.Convert w) regs flags = Once (convert_effect w regs flags)

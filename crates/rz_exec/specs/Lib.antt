@@ -14,4 +14,5 @@ pub mod Strings
 pub mod FlagChanges
 pub mod Effect
 pub mod Fault
+pub mod Calls
 pub mod Laws

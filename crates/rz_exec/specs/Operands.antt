@@ -28,6 +28,11 @@ address_of regs (places.Reg r) = None
 address_of regs (places.Mem m) = Some (address regs m)
 address_of regs (places.At a) = Some a
 
+-- an immediate has none, either
+abbrev pub operand_address : List ℕ → Operand → Option ℕ
+operand_address regs (operands.Place p) = address_of regs p
+operand_address regs (operands.Imm i) = None
+
 -- ---- words of memory
 
 abbrev pub word_at : Width → Option ℕ → Option WordAt
@@ -38,8 +43,7 @@ abbrev pub word_of : Width → List ℕ → Place → Option WordAt
 word_of w regs p = word_at w (address_of regs p)
 
 abbrev pub operand_word : Width → List ℕ → Operand → Option WordAt
-operand_word w regs (operands.Place p) = word_of w regs p
-operand_word w regs (operands.Imm i) = None
+operand_word w regs x = word_at w (operand_address regs x)
 
 -- ---- values, where the word that was read stands for memory
 

@@ -1,5 +1,5 @@
 -- Products and quotients (Intel SDM, volume 2, "MUL", "IMUL", "DIV", "IDIV").
-use Rattle.std.specs.Prelude.{ℕ, ◌/◌, ◌%◌, ◌^◌, Bool, true, false, List, get_or, Option, Some, None, Result, Ok, Err}
+use Rattle.std.specs.Prelude.{ℕ, ◌/◌, ◌%◌, ◌^◌, Bool, true, false, if◌then◌else◌, List, get_or, Option, Some, None, Result, Ok, Err}
 use Rattle.rz_num.specs.declared.width.Width.{Width}
 use Rattle.rz_num.specs.declared.width.Width.TheVariants.{W8}
 use Rattle.rz_num.specs.Width.{size, low_bits}
@@ -38,11 +38,22 @@ quotient_values w regs flags (Some d) = Ok (new_regs (put_pair w regs d.0 d.1) f
 abbrev pub divided : Bool → Width → List ℕ → ℕ → Option (ℕ × ℕ)
 divided signed w regs v = division w signed (pair w (low_bits w (high_half w regs)) (low_bits w (get_or regs 0 0))) (low_bits w v)
 
+abbrev pub is_signed : WideOp → Bool
+is_signed Mul = false
+is_signed Imul = true
+is_signed Div = false
+is_signed Idiv = true
+
+abbrev pub is_division : WideOp → Bool
+is_division Mul = false
+is_division Imul = false
+is_division Div = true
+is_division Idiv = true
+
 abbrev pub wide_values : WideOp → Width → List ℕ → ℕ → Flags → Result NewValues Stop
-wide_values Mul w regs v flags = Ok (product_values false w regs v flags)
-wide_values Imul w regs v flags = Ok (product_values true w regs v flags)
-wide_values Div w regs v flags = quotient_values w regs flags (divided false w regs v)
-wide_values Idiv w regs v flags = quotient_values w regs flags (divided true w regs v)
+wide_values op w regs v flags =
+    if is_division op then quotient_values w regs flags (divided (is_signed op) w regs v)
+    else Ok (product_values (is_signed op) w regs v flags)
 
 abbrev pub wide_effect : WideOp → Width → Place → List ℕ → Flags → Effect
 wide_effect op w src regs flags = record {

@@ -23,6 +23,6 @@ abbrev pub shift_effect : ShiftOp → Width → Place → Count → List ℕ →
 shift_effect op w dst count regs flags =
     on_word (word_of w regs dst) (λ a. new_answer true w dst regs (shift op w (value_of w regs dst a) (count_in regs count) flags))
 
-abbrev pub double_shift_effect : Bool → Width → Place → ℕ → Count → List ℕ → Flags → Effect
-double_shift_effect left w dst src count regs flags =
+abbrev pub double_effect : Bool → Width → Place → ℕ → Count → List ℕ → Flags → Effect
+double_effect left w dst src count regs flags =
     on_word (word_of w regs dst) (λ a. new_answer true w dst regs (double_shift left w (value_of w regs dst a) (get_or regs src 0) (count_in regs count) flags))

@@ -55,8 +55,8 @@ abbrev pub taken_flags : List ℕ → Option Flags → Result NewValues Stop
 taken_flags regs None = Err Popped
 taken_flags regs (Some flags) = Ok (new_regs regs flags)
 
-abbrev pub pop_flags_effect : List ℕ → Effect
-pop_flags_effect regs = record {
+abbrev pub pop_flags_effect : List ℕ → Flags → Effect
+pop_flags_effect regs flags = record {
   accesses = record { first = word_at W64 (Some (top_of regs)); second = None; write = None };
   gives = λ a b. taken_flags (popped (top_of regs) regs) (flags_in a);
 }

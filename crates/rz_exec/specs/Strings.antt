@@ -5,7 +5,7 @@ use Rattle.rz_num.specs.declared.width.Width.{Width}
 use Rattle.rz_num.specs.declared.width.Width.TheVariants.{W64}
 use Rattle.rz_flags.specs.declared.Flags.{Flags}
 use Rattle.rz_image.specs.Word.{byte_count}
-use Rattle.rz_exec.specs.Form.{Effect, PlainEffect, Once, Repeats}
+use Rattle.rz_exec.specs.Form.{Effect, Repeat, PlainEffect, Once, Repeats}
 use Rattle.rz_exec.specs.Registers.{get_reg, put_reg}
 use Rattle.rz_exec.specs.Operands.{word_at}
 
@@ -34,7 +34,11 @@ stos_effect w rep regs flags = record {
   gives = λ a b. Ok (record { regs = counted rep (moved w flags 7 regs); flags = flags; word = get_reg w regs 0 });
 }
 
--- one element, or as many as RCX says: an iteration that isn't completed ends the repeat alone
+-- an effect repeated, which no flag ends (REP)
+abbrev pub each_time : (List ℕ → Flags → Effect) → Repeat
+each_time each = record { each = each; follows = λ f. true }
+
+-- one element, or as many as RCX says
 abbrev pub elements : (Bool → List ℕ → Flags → Effect) → Bool → List ℕ → Flags → PlainEffect
 elements each false regs flags = Once (each false regs flags)
-elements each true regs flags = Repeats (record { each = each true; follows = λ f. true })
+elements each true regs flags = Repeats (each_time (each true))

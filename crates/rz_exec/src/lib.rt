@@ -1,6 +1,21 @@
 //! What plain instructions do to registers, flags and memory.
 #![tactic(auto)]
 
+mod arithmetic;
+mod bits;
+mod conditions;
+mod exchanges;
+mod exec;
+mod flag_changes;
+mod memory;
+mod moves;
+mod operands;
+mod products;
+mod registers;
+mod shifts;
+mod stack;
 mod state;
+mod strings;
 
+pub use exec::exec_plain;
 pub use state::{Cpu, Fault};
