@@ -23,8 +23,8 @@ use Rattle.rz_machine.specs.Keeps.{Keeps}
 use Rattle.rz_machine.specs.Added.{added}
 use Rattle.rz_elf.specs.PlainImage.{IsPlainRegion, IsPlainImage}
 use Rattle.rz_rewrite.proofs.AddedLaws.{sites-first, site_edges-first}
-use Rattle.rz_image.proofs.Cells.{IsFixed, all_map, none_self_written}
-use Rattle.rz_elf.proofs.PlainAccepted.{accepted_plain}
+use Rattle.rz_image.specs.Laws.Cells.{IsFixed, all_map, none_self_written}
+use Rattle.rz_elf.specs.Laws.PlainAccepted.{accepted_plain}
 use Rattle.rz_core.specs.Texts.{report_text}
 use Rattle.rz_core.specs.Debloated.{traced, kept_of, IsDebloated, report_of}
 use Rattle.rz_core.specs.Making.{IsOfThin, plain_report}

@@ -30,7 +30,7 @@ use Rattle.rz_machine.proofs.NodeLaws.{spelled_at-code_in}
 use Rattle.rz_rewrite.proofs.SpelledItems.{insn_of_spelling, AllSpelled, items_stand}
 use Rattle.rz_rewrite.proofs.Trimmed.{spelled_trimmed, spelled_items_of, length-trimmed, length-items_of, fragment_stands}
 use Rattle.rz_rewrite.proofs.Emitted.{items, Found, found}
-use Rattle.rz_image.proofs.Cells.{IsFixed, none_self_written}
+use Rattle.rz_image.specs.Laws.Cells.{IsFixed, none_self_written}
 use Rattle.rz_rewrite.proofs.Images.{all_append, stripped_fixed, stripped_same, Whole, code_at, stubs_at, stop_at, code_there, stubs_there, beside, added_fixed}
 use Rattle.rz_rewrite.proofs.PlainNodes.{plain_fixed, Stands, stands}
 use Rattle.rz_rewrite.proofs.Parts.{Lie, stub_found}

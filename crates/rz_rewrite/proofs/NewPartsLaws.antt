@@ -23,7 +23,7 @@ use Rattle.rz_rewrite.proofs.Emitted.{length-fragments_bytes}
 use Rattle.rz_rewrite.proofs.Parts.{length-filled}
 use Rattle.rz_rewrite.proofs.PlainNodes.{stands}
 use Rattle.rz_rewrite.proofs.RewrittenLaws.{code_room, stubs_room, stop_low, place_in_code}
-use Rattle.rz_image.proofs.Zeros.{length-zeros}
+use Rattle.rz_image.specs.Laws.Zeros.{length-zeros}
 use Rattle.rz_rewrite.specs.declared.added.AddedRange.{AddedRange}
 use Rattle.rz_rewrite.specs.NewParts.{range_of, new_parts_of}
 use Rattle.rz_rewrite.specs.Places.{Placing, address_in, nodes_of, IsPlacingOf}

@@ -12,8 +12,8 @@ use Rattle.rz_machine.specs.TableLaws.{NamesInsn}
 use Rattle.rz_machine.specs.FirstLaws.{names_insns, spelled_where_decoded}
 use Rattle.rz_elf.specs.Elf.{Image}
 use Rattle.rz_elf.specs.PlainImage.{IsPlainImage, IsPlainRegion}
-use Rattle.rz_image.proofs.Cells.{IsFixed, all_map, fetch_bytes, fetch_low, fetch_first}
-use Rattle.rz_elf.proofs.PlainCells.{plain_cell}
+use Rattle.rz_image.specs.Laws.Cells.{IsFixed, all_map, fetch_bytes, fetch_low, fetch_first}
+use Rattle.rz_elf.specs.Laws.PlainCells.{plain_cell}
 
 -- no region of a plain image is both written and executed
 pub plain_fixed : (m : Regions) → AllByRecursion IsPlainRegion m → AllByRecursion IsFixed m

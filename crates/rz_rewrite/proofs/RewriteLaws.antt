@@ -17,8 +17,8 @@ use Rattle.rz_rewrite.specs.Rewritten.{HasRoom, IsRewritten}
 use Rattle.rz_rewrite.specs.Thin.{IsThin, thin_base}
 use Rattle.rz_machine.specs.WrittenFile.{Inert}
 use Rattle.rz_rewrite.proofs.AddedLaws.{added-thin}
-use Rattle.rz_elf.proofs.PlainAccepted.{accepted_plain}
-use Rattle.rz_elf.proofs.Reading.{loaded-elf_of}
+use Rattle.rz_elf.specs.Laws.PlainAccepted.{accepted_plain}
+use Rattle.rz_elf.specs.Laws.Reading.{loaded-elf_of}
 use Rattle.rz_rewrite.proofs.RewrittenLaws.{lie}
 use Rattle.rz_rewrite.proofs.ThinKept.{thin_room, thin_kept}
 use Rattle.rz_rewrite.proofs.ThinLoads.{thin_fault, elf_of-thin}

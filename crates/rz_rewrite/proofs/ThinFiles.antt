@@ -10,8 +10,8 @@ use Rattle.rz_elf.specs.WrittenFile.{segment_bytes}
 use Rattle.rz_rewrite.specs.Thin.{thin_header, thin_segment, thin_file, IsThin}
 use Rattle.rz_rewrite.specs.ThinPage.{has_thin_page}
 use Rattle.rz_rewrite.proofs.ThinLaws.{length-thin_file}
-use Rattle.rz_image.proofs.Zeros.{length-zeros}
-use Rattle.rz_image.proofs.Zeros.{zeros-pass, zeros-where_pass}
+use Rattle.rz_image.specs.Laws.Zeros.{length-zeros}
+use Rattle.rz_image.specs.Laws.Zeros.{zeros-pass, zeros-where_pass}
 
 abbrev program_header : ℕ → List ℕ
 program_header n = segment_bytes (thin_segment n)

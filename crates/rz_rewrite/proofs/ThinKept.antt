@@ -21,7 +21,7 @@ use Rattle.rz_elf.specs.PlainImage.{IsPlainImage}
 use Rattle.rz_rewrite.specs.Rewritten.{HasRoom, ThinFilesKept, ThinFilesHaveRoom}
 use Rattle.rz_rewrite.proofs.PlainNodes.{stands}
 use Rattle.rz_rewrite.proofs.ThinLaws.{code_region, code_image, thin_image, thin_accepted}
-use Rattle.rz_elf.proofs.PlainAccepted.{accepted_plain}
+use Rattle.rz_elf.specs.Laws.PlainAccepted.{accepted_plain}
 use Rattle.rz_rewrite.proofs.WrittenLaws.{PartsFit, written_image}
 use Rattle.rz_rewrite.proofs.AddedLaws.{sites-first, site_edges-first, thin_added, added-thin, parts_fit, inert_of}
 use Rattle.rz_rewrite.proofs.KeepsWritten.{keeps_written}

@@ -12,9 +12,9 @@ use Rattle.rz_elf.specs.declared.header.FileHeader.{FileHeader}
 use Rattle.rz_elf.specs.WrittenFile.{moved, kept_segments}
 use Rattle.rz_image.specs.Perm.{read_execute}
 use Rattle.rz_rewrite.specs.Thin.{thin_base, thin_segment, thin_file, IsThin}
-use Rattle.rz_image.proofs.Zeros.{length-zeros}
+use Rattle.rz_image.specs.Laws.Zeros.{length-zeros}
 use Rattle.rz_rewrite.proofs.HeaderLaws.{IsEncodable, segments_of-segment_bytes}
-use Rattle.rz_elf.proofs.Accepted.{IsGoodLoad, is_load-good, executable_header, HasGoodHeaders, loads-good, fault_of_none}
+use Rattle.rz_elf.specs.Laws.Accepted.{IsGoodLoad, is_load-good, executable_header, HasGoodHeaders, loads-good, fault_of_none}
 
 pub zeros-none : (n : ℕ) → zeros (n - n) ≡ []
 unfolding zeros

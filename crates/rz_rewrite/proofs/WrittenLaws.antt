@@ -15,9 +15,9 @@ use Rattle.rz_elf.specs.WrittenFile.{Parts, segment_bytes, header_bytes, header_
 use Rattle.rz_image.specs.Perm.{read_write}
 use Rattle.rz_rewrite.specs.Thin.{thin_base, thin_file}
 use Rattle.rz_rewrite.proofs.HeaderLaws.{IsEncodable, segments_of-segment_bytes, long}
-use Rattle.rz_elf.proofs.Accepted.{IsGoodLoad, AreGoodLoads, executable_header, HasGoodHeaders, loads-good, fault_of_none}
+use Rattle.rz_elf.specs.Laws.Accepted.{IsGoodLoad, AreGoodLoads, executable_header, HasGoodHeaders, loads-good, fault_of_none}
 use Rattle.rz_rewrite.proofs.ThinLaws.{zeros-none, length-thin_file, drop-thin_file, kept_segment, thin_kept, code_region, code_image, thin_image}
-use Rattle.rz_image.proofs.Zeros.{length-zeros}
+use Rattle.rz_image.specs.Laws.Zeros.{length-zeros}
 
 -- parts of whole pages that end where a thin file's code begins, and an entry in the code part
 pub record PartsFit (p : Parts) (entry : ℕ) : Type 0 where

@@ -7,8 +7,8 @@ use Rattle.rz_image.specs.declared.access.Access.TheVariants.{Execute, Write, Re
 use Rattle.rz_image.specs.declared.region.Region.{Region}
 use Rattle.rz_image.specs.Memory.{Cell, Regions, Ascend, cell_in, cell_at, no_cell, wrap, refused, bytes_at, fetched, fetch}
 use Rattle.rz_image.specs.Run.{permits, allows, run_in, HasRegion, IsRun}
-use Rattle.rz_image.proofs.Cells.{inside}
-use Rattle.rz_image.proofs.FindLaws.{fits_at, cell_found}
+use Rattle.rz_image.specs.Laws.Cells.{inside}
+use Rattle.rz_image.specs.Laws.Find.{fits_at, cell_found}
 use Rattle.rz_image.specs.Laws.Puts.{within}
 
 -- a cell of a region allows what is open and permitted

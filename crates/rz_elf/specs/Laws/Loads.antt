@@ -7,13 +7,13 @@ use Rattle.rz_num.specs.Page.{page_up}
 use Rattle.rz_image.specs.Perm.{executes}
 use Rattle.rz_image.specs.Memory.{Regions, RegionsFit, AscendFrom, Ascend, zeros, contains, cell_in, code_of}
 use Rattle.rz_image.specs.Laws.Puts.{within}
-use Rattle.rz_image.proofs.Zeros.{length-zeros}
+use Rattle.rz_image.specs.Laws.Zeros.{length-zeros}
 use Rattle.rz_elf.specs.declared.elf.Load.{Load}
 use Rattle.rz_elf.specs.Elf.{Segment, Placed, segments, is_load, loads, placed_from, placed, against, isnt_above, shares_page, highest_end, image_of}
 use Rattle.rz_elf.specs.Loaded.{ElfFile, is_load_header, load_of, elf_of, loaded_region, loaded, IsRead, IsLoad, IsLoadable, IsLow}
-use Rattle.rz_elf.proofs.HeaderList.{loads_placed}
-use Rattle.rz_elf.proofs.Reading.{headers_faultless, accepted_loads, first_break_of, loaded-elf_of}
-use Rattle.rz_elf.proofs.Sound.{IsSound, IsSoundLoad, sound, sound_load, low_loads, begins_past}
+use Rattle.rz_elf.specs.Laws.HeaderList.{loads_placed}
+use Rattle.rz_elf.specs.Laws.Reading.{headers_faultless, accepted_loads, first_break_of, loaded-elf_of}
+use Rattle.rz_elf.specs.Laws.Sound.{IsSound, IsSoundLoad, sound, sound_load, low_loads, begins_past}
 
 -- each of the loads is one
 pub load_at : (P : Load → Type 0) (ls : List Load) (i : ℕ) (d : Load) → AllByRecursion P ls → i < length ls → P (get_or ls i d)

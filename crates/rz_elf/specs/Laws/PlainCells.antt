@@ -4,7 +4,7 @@ use Rattle.std.specs.List.{AllByRecursion}
 use Rattle.std.proofs.lemmas.Bool.{and_parts}
 use Rattle.rz_image.specs.declared.region.Region.{Region}
 use Rattle.rz_image.specs.Memory.{Cell, Regions, contains, cell_in, cell_at}
-use Rattle.rz_image.proofs.Cells.{cells, all_map, get_byte}
+use Rattle.rz_image.specs.Laws.Cells.{cells, all_map, get_byte}
 use Rattle.rz_elf.specs.PlainImage.{IsPlainRegion}
 
 -- a cell of plain regions holds a byte, and is at a low address where it may be executed

@@ -5,8 +5,8 @@ use Rattle.std.specs.Int.Count.{ones, ones_in, ones_cat}
 use Rattle.std.specs.List.{AllByRecursion, list_any, starts_with}
 use Rattle.std.proofs.lemmas.Bool.Decides.{nat_tests}
 use Rattle.rz_elf.specs.Elf.{Segment, segments, is_load, loads, file_header, FileHeader, field, Placed, placed_from, placed, against, is_dynamic, is_stack_code, has_other_flags, is_writable_code, is_larger_in_file, leaves_file, is_misaligned, is_far, isnt_above, shares_page, has_entry, page, last_page, file_conditions, header_conditions, load_conditions, fault_of}
-use Rattle.rz_elf.proofs.Conditions.{NoneHolds, first_of_none, NoneHolds-append}
-use Rattle.rz_elf.proofs.Sound.{IsSound, faultless_where_sound}
+use Rattle.rz_elf.specs.Laws.Conditions.{NoneHolds, first_of_none, NoneHolds-append}
+use Rattle.rz_elf.specs.Laws.Sound.{IsSound, faultless_where_sound}
 
 -- a load that no condition on one program header refuses, in a file of so many bytes
 pub record IsGoodLoad (len : ℕ) (s : Segment) : Type 0 where

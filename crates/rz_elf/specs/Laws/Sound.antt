@@ -6,7 +6,7 @@ use Rattle.rz_elf.specs.declared.fault.ElfFault.{ElfFault}
 use Rattle.rz_elf.specs.declared.fault.ElfFault.TheVariants as fault
 use Rattle.rz_elf.specs.Elf.{Segment, Placed, is_load, against, each, of_segment, is_dynamic, is_stack_code, has_other_flags, is_writable_code, is_larger_in_file, leaves_file, is_misaligned, is_far, isnt_above, shares_page, header_conditions, first_of}
 use Rattle.rz_elf.specs.Loaded.{is_load_header, IsLow}
-use Rattle.rz_elf.proofs.Conditions.{NoneHolds, NoneHolds-append, NoneHolds-each, none_holds, first_none, second_none, each_none}
+use Rattle.rz_elf.specs.Laws.Conditions.{NoneHolds, NoneHolds-append, NoneHolds-each, none_holds, first_none, second_none, each_none}
 
 -- no condition on program headers holds of one in a file of so many bytes
 pub record IsSound (len : ℕ) (p : Placed) : Type 0 where

@@ -6,9 +6,9 @@ use Rattle.rz_num.specs.Page.{page_up}
 use Rattle.rz_elf.specs.declared.fault.ElfFault.{ElfFault}
 use Rattle.rz_elf.specs.Elf.{Placed, Condition, first_of, file_header, placed, loads, file_conditions, header_conditions, load_conditions, fault_of, highest_end, load_region, image_of}
 use Rattle.rz_elf.specs.Loaded.{is_load_header, load_of, elf_of, loaded_region, loaded, IsLow}
-use Rattle.rz_elf.proofs.Conditions.{none_holds, first_of_none, first_none, second_none, first_left, first_right}
-use Rattle.rz_elf.proofs.HeaderList.{loads_placed, few_loads}
-use Rattle.rz_elf.proofs.Sound.{IsSoundLoad, sound, sound_loads, low_loads}
+use Rattle.rz_elf.specs.Laws.Conditions.{none_holds, first_of_none, first_none, second_none, first_left, first_right}
+use Rattle.rz_elf.specs.Laws.HeaderList.{loads_placed, few_loads}
+use Rattle.rz_elf.specs.Laws.Sound.{IsSoundLoad, sound, sound_loads, low_loads}
 
 module _ (x : List ℕ) where
   abbrev of_file : List Condition

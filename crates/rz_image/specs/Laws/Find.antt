@@ -6,7 +6,7 @@ use Rattle.std.proofs.lemmas.Bool.{cond-true, cond-false, cases_lt}
 use Rattle.std.proofs.lemmas.Bool.Decides.{nat_tests}
 use Rattle.rz_image.specs.declared.region.Region.{Region}
 use Rattle.rz_image.specs.Memory.{Regions, RegionsFit, AscendFrom, Ascend, contains, cell_in, cell_at, no_cell}
-use Rattle.rz_image.proofs.Cells.{apart}
+use Rattle.rz_image.specs.Laws.Cells.{apart}
 
 -- what is said of each region
 pub fits_at : (m : Regions) (low i : ℕ) (d : Region) → AscendFrom low m → i < length m → (low ≤ (get_or m i d).base) × ((get_or m i d).base + length (get_or m i d).bytes < 2 ^ 64) × ((get_or m i d).opened ≤ length (get_or m i d).bytes)

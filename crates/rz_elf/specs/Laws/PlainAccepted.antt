@@ -4,13 +4,13 @@ use Rattle.std.specs.List.{AllByRecursion}
 use Rattle.std.proofs.lemmas.Bool.Decides.{nat_tests}
 use Rattle.rz_image.specs.Perm.{writes, executes, perm_of}
 use Rattle.rz_image.specs.Memory.{zeros}
-use Rattle.rz_image.proofs.Zeros.{length-zeros}
+use Rattle.rz_image.specs.Laws.Zeros.{length-zeros}
 use Rattle.rz_elf.specs.Elf.{Segment, Placed, placed, fault_of, load_bytes, load_region, image_of}
 use Rattle.rz_elf.specs.Loaded.{is_load_header}
 use Rattle.rz_elf.specs.PlainImage.{IsPlainImage, IsPlainRegion}
-use Rattle.rz_elf.proofs.HeaderList.{loads_placed}
-use Rattle.rz_elf.proofs.Reading.{accepted_loads}
-use Rattle.rz_elf.proofs.Sound.{IsSoundLoad}
+use Rattle.rz_elf.specs.Laws.HeaderList.{loads_placed}
+use Rattle.rz_elf.specs.Laws.Reading.{accepted_loads}
+use Rattle.rz_elf.specs.Laws.Sound.{IsSoundLoad}
 
 -- bytes before and from a place on
 all_take : (P : ℕ → Type 0) (n : ℕ) (bs : List ℕ) → AllByRecursion P bs → AllByRecursion P (take n bs)
