@@ -29,7 +29,7 @@ fn address(regs: &[u64; 16], mem: Mem) -> u64
 }
 
 // The address of a place in memory; a register has none.
-pub(crate) fn address_of(regs: &[u64; 16], place: Place) -> Option<u64>
+pub fn address_of(regs: &[u64; 16], place: Place) -> Option<u64>
     requires { IsTrue (is_named_place place) }
     ensures { result ≡ address_at regs.now place }
 {
@@ -51,7 +51,7 @@ pub(crate) fn operand_address(regs: &[u64; 16], operand: Operand) -> Option<u64>
 }
 
 // What a place holds, where a word was read for memory.
-pub(crate) fn value_of(w: Width, regs: &[u64; 16], place: Place, word: u64) -> u64
+pub fn value_of(w: Width, regs: &[u64; 16], place: Place, word: u64) -> u64
     requires { IsTrue (is_named_place place) }
     ensures { result ≡ value_at w regs.now place word }
 {

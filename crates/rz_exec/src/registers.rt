@@ -16,7 +16,7 @@ pub(crate) fn get_reg(w: Width, regs: &[u64; 16], n: u8) -> u64
 }
 
 // Writes the register of a number: 32 bits clear the upper half, 8 and 16 bits leave the rest.
-pub(crate) fn put_reg(w: Width, regs: &mut [u64; 16], n: u8, value: u64)
+pub fn put_reg(w: Width, regs: &mut [u64; 16], n: u8, value: u64)
     requires { IsTrue (is_reg n) }
     ensures { regs.new ≡ with_reg w regs.old n value }
 {

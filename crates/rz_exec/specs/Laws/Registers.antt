@@ -85,12 +85,12 @@ counted_regs false regs h = h
 
 -- ---- effects
 
-abbrev GivesRegs : Result NewValues Stop → Type 0
+abbrev pub GivesRegs : Result NewValues Stop → Type 0
 GivesRegs (Ok v) = AreRegs v.regs
 GivesRegs (Err why) = Unit {0}
 
 -- what an effect gives, whatever words it reads
-abbrev KeepsRegs : Effect → Type 0
+abbrev pub KeepsRegs : Effect → Type 0
 KeepsRegs e = (a b : ℕ) → GivesRegs (e.gives a b)
 
 pub carry_regs : (e : Effect) (regs : List ℕ) (flags : Flags) (m : Regions) → AreRegs regs → KeepsRegs e → AreRegs (carry e regs flags m).regs
