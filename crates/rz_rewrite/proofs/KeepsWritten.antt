@@ -1,6 +1,5 @@
 -- A rewritten file keeps each run of the original.
-use Rattle.std.proofs.Common.{◌≡◌, ℕ, ◌+◌, ◌-◌, ◌*◌, ◌^◌, ◌<◌, ◌≤◌, true, List, [], ◌∷◌, ◌++◌, length, map, replicate, Some, None, refl, sym, ap, ◌∙◌, subst, subst₂, arith, append_assoc}
-use Rattle.std.specs.List.{AllByRecursion}
+use Rattle.std.proofs.Common.{◌≡◌, ℕ, ◌+◌, ◌-◌, ◌*◌, ◌^◌, ◌<◌, ◌≤◌, true, List, [], ◌∷◌, ◌++◌, length, map, replicate, refl, sym, ap, ◌∙◌, subst, subst₂, arith, append_assoc}
 use Rattle.rz_machine.specs.declared.insn.Insn.{Insn}
 use Rattle.rz_machine.specs.declared.insn.Insn.TheVariants as insn
 use Rattle.rz_rewrite.specs.declared.items.Item.{Item}
@@ -10,7 +9,7 @@ use Rattle.rz_machine.specs.declared.machine.Machine.{Machine}
 use Rattle.rz_sys.specs.declared.input.Input.{Input}
 use Rattle.rz_machine.specs.Kept.{Kept, has_node, sorted}
 use Rattle.rz_image.specs.Memory.{Regions, IsOutside, SameCell, Alike, NoSelfWritten, cell_at, wrap}
-use Rattle.rz_machine.specs.Start.{start, heap_region, stack_region, first_regs, first_rsp}
+use Rattle.rz_machine.specs.Start.{start, heap_region, stack_region}
 use Rattle.rz_machine.specs.First.{decode_first}
 use Rattle.rz_elf.specs.Elf.{Image}
 use Rattle.rz_machine.specs.Added.{Layout, node_count, added, layout_of}

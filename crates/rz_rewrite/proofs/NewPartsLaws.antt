@@ -1,32 +1,27 @@
 -- The parts of a new file hold what they are to hold.
-use Rattle.std.proofs.Common.{◌≡◌, ℕ, ◌+◌, ◌-◌, ◌*◌, ◌^◌, ◌<◌, ◌≤◌, ◌==◌, List, length, get_or, replicate, refl, sym, ap, ap₂, ◌∙◌, subst, arith, eq-eqb}
+use Rattle.std.proofs.Common.{◌≡◌, ℕ, ◌+◌, ◌-◌, ◌*◌, ◌^◌, ◌<◌, ◌≤◌, List, length, replicate, sym, ap, ap₂, ◌∙◌, subst, arith}
 use mathlib.Core.Path.{fun_ext}
-use Rattle.std.specs.List.{All}
-use Rattle.std.proofs.lemmas.List.Folds.{list_any_at}
 use Rattle.rz_rewrite.specs.declared.items.Label.{Label}
 use Rattle.rz_rewrite.specs.declared.items.Label.TheVariants as label
 use Rattle.rz_rewrite.specs.declared.items.Fragment.{Fragment}
-use Rattle.rz_machine.specs.Kept.{Kept, IsAscending, sorted, sorted_edges}
-use Rattle.rz_machine.proofs.SetLaws.{has_node-sorted, IsAscending-sorted}
+use Rattle.rz_machine.specs.Kept.{Kept, IsAscending, sorted}
+use Rattle.rz_machine.proofs.SetLaws.{IsAscending-sorted}
 use Rattle.rz_image.specs.Memory.{zeros}
 use Rattle.rz_elf.specs.Elf.{Image}
 use Rattle.rz_machine.specs.First.{decode_first}
 use Rattle.rz_rewrite.specs.Fragments.{fragments_bytes, address_of, total_len}
 use Rattle.rz_machine.specs.Added.{node_count, added}
-use Rattle.rz_elf.specs.AddedRange.{Added, tables_size, code_size, stubs_size, page_floor, lowest, parts_below, all_stubs, filled}
+use Rattle.rz_elf.specs.AddedRange.{Added, all_stubs, filled}
 use Rattle.rz_elf.specs.WrittenFile.{Parts}
 use Rattle.rz_machine.specs.Nodes.{code_in, IsPlausible}
 use Rattle.rz_elf.specs.PlainImage.{IsPlainImage}
 use Rattle.rz_rewrite.specs.Rewritten.{HasRoom, IsRewritten, fragments_of, place_of, code_of_nodes}
-use Rattle.rz_rewrite.proofs.AddedLaws.{sites-first, site_edges-first}
 use Rattle.rz_rewrite.proofs.Emitted.{length-fragments_bytes}
 use Rattle.rz_rewrite.proofs.Parts.{length-filled}
-use Rattle.rz_rewrite.proofs.PlainNodes.{stands}
 use Rattle.rz_rewrite.proofs.RewrittenLaws.{code_room, stubs_room, stop_low, place_in_code}
 use Rattle.rz_image.proofs.Zeros.{length-zeros}
 use Rattle.rz_rewrite.specs.declared.added.AddedRange.{AddedRange}
-use Rattle.rz_rewrite.specs.NewParts.{range_of, new_parts_of}
-use Rattle.rz_rewrite.specs.Places.{Placing, address_in, nodes_of, IsPlacingOf}
+use Rattle.rz_rewrite.specs.Places.{range_of, Placing, address_in, nodes_of, IsPlacingOf}
 use Rattle.rz_rewrite.proofs.FragmentLaws.{nodes_of_fragments, length-fragments}
 use Rattle.rz_rewrite.proofs.Emitted.{total_most}
 
@@ -42,23 +37,6 @@ module _ (x : Image) (kept : Kept) (plain : IsPlainImage x) (can : IsPlausible d
 
   abbrev frags : List Fragment
   frags = fragments_of decode_first x kept
-
-  -- the first table has no sites
-  pub range_is : parts_below (tables_size 0 0) (code_size n 0 0) (stubs_size n) (page_floor (lowest x.loads)) ≡ a
-  range_is =
-      ap₂ (λ (s : List ℕ) (e : List (ℕ × ℕ)). parts_below (tables_size (length s) (length e)) (code_size n (length s) (length e)) (stubs_size n) (page_floor (lowest x.loads)))
-      (sym (sites-first (code_in x.loads) nodes_up)) (sym (site_edges-first (code_in x.loads) (sorted_edges kept.edges)))
-
-  -- each node is low
-  pub nodes_low : All (λ b. b < 2 ^ 31) nodes_up
-  nodes_low k d lt =
-      let b = get_or nodes_up k d in
-      let node = can.stands.nodes b (sym (has_node-sorted kept.nodes b) ∙ list_any_at (λ c. c == b) nodes_up k d lt (eq-eqb b b refl)) in
-      let low = (stands x plain b node.insn node.len node.spelled).low in
-      omega (arith, low)
-
-  pub stop_is_low : page_floor (lowest x.loads) < 2 ^ 31
-  stop_is_low = let h = stop_low decode_first x kept room plain in omega (arith, h)
 
   -- what stands in such a range
   pub record Fits (fs : List Fragment) (r : AddedRange) : Type 0 where
@@ -133,13 +111,7 @@ module _ (x : Image) (kept : Kept) (plain : IsPlainImage x) (can : IsPlausible d
     base_is : parts.base ≡ a.scratch
     base_is = are.base ∙ ap (λ (b : Added). b.scratch) are.range_as
 
-    pub parts_are : parts ≡ new_parts_of decode_first x kept
-    parts_are =
-        let front : parts ≡ record { base = a.scratch; tables = zeros (a.code - a.tables); code = parts.code; stubs = parts.stubs } =
-        ap₂ (λ b t. let q : Parts = record { base = b; tables = t; code = parts.code; stubs = parts.stubs } in q) base_is tables_hold in
-        front ∙ ap₂ (λ k s. let q : Parts = record { base = a.scratch; tables = zeros (a.code - a.tables); code = k; stubs = s } in q) code_holds stubs_hold
-
-    pub begins_is : entry ≡ place_of decode_first x kept x.entry
+    begins_is : entry ≡ place_of decode_first x kept x.entry
     begins_is = are.begins ∙ labels (label.Place x.entry)
 
     code_long : length (code_of_nodes decode_first x kept) ≤ a.stubs - a.code

@@ -1,4 +1,4 @@
--- Where fragments and stubs stand, for nodes in ascending order.
+-- Where the added parts lie, and where fragments and stubs stand in them, for nodes in ascending order.
 use Rattle.std.specs.Prelude.{◌≡◌, ℕ, ◌+◌, ◌*◌, ◌^◌, ◌<◌, List, [], ◌∷◌, length, map, get_or, All}
 use Rattle.rz_rewrite.specs.declared.items.Label.{Label}
 use Rattle.rz_rewrite.specs.declared.items.Label.TheVariants as label
@@ -7,6 +7,11 @@ use Rattle.rz_rewrite.specs.Fragments.{items_len, address_of}
 use Rattle.rz_machine.specs.Added.{index_of}
 use Rattle.rz_elf.specs.AddedRange.{Added, stub_size}
 use Rattle.rz_machine.specs.Kept.{IsAscending}
+use Rattle.rz_rewrite.specs.declared.added.AddedRange.{AddedRange}
+
+-- where the parts lie
+abbrev pub range_of : AddedRange → Added
+range_of r = record { scratch = r.scratch; tables = r.tables; code = r.code; stubs = r.stubs; stop = r.stop }
 
 -- the addresses of the instructions that the fragments stand for
 abbrev pub nodes_of : List Fragment → List ℕ

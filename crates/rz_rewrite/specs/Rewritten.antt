@@ -1,6 +1,5 @@
 -- What the added parts hold where a file is rewritten: the fragments and the stubs of the kept nodes.
-use Rattle.std.specs.Prelude.{◌≡◌, ℕ, ◌+◌, ◌*◌, ◌<◌, ◌≤◌, true, List, ◌++◌, length}
-use Rattle.std.specs.List.{AllByRecursion}
+use Rattle.std.specs.Prelude.{◌≡◌, ℕ, ◌+◌, ◌*◌, ◌≤◌, true, List, ◌++◌, length}
 use Rattle.rz_rewrite.specs.declared.items.Fragment.{Fragment}
 use Rattle.rz_rewrite.specs.declared.items.Label.{Label}
 use Rattle.rz_sys.specs.declared.input.Input.{Input}
@@ -11,11 +10,11 @@ use Rattle.rz_machine.specs.Kept.{Kept, sorted, has_node}
 use Rattle.rz_machine.specs.Nodes.{code_in, IsPlausible}
 use Rattle.rz_machine.specs.Added.{node_count, site_count, site_edge_count, added, layout_of}
 use Rattle.rz_elf.specs.AddedRange.{scratch_size, tables_size, code_size, stubs_size, lowest, page_floor}
-use Rattle.rz_machine.specs.WrittenFile.{IsAdded, Inert}
-use Rattle.rz_elf.specs.WrittenFile.{Parts, new_image, written_file}
+use Rattle.rz_machine.specs.WrittenFile.{IsAdded}
+use Rattle.rz_elf.specs.WrittenFile.{Parts, new_image}
 use Rattle.rz_machine.specs.Start.{start}
-use Rattle.rz_rewrite.specs.Thin.{IsThin}
-use Rattle.rz_machine.specs.Keeps.{KeepsRun, Keeps}
+use Rattle.rz_machine.specs.Keeps.{KeepsRun}
+use Rattle.rz_machine.specs.Placement.{IsPlaced}
 use Rattle.rz_machine.specs.Pace.{Paced}
 use Rattle.rz_elf.specs.PlainImage.{IsPlainImage}
 use Rattle.rz_rewrite.specs.Fragments.{fragments, place_in, address_of, fragments_bytes}
@@ -54,6 +53,11 @@ pub record IsRewritten (dec : Decoder) (x : Image) (kept : Kept) (parts : Parts)
   pub code : parts.code ≡ code_of_nodes dec x kept ++ fill
   pub begins : entry ≡ place_of dec x kept x.entry
 
+-- what is loaded of the new file w has some place for each kept node, where its fragment stands, and the stubs in theirs
+abbrev pub HasPlacement : Decoder → List ℕ → List ℕ → Kept → Type 0
+HasPlacement dec x w kept =
+    (place : ℕ → ℕ) × IsPlaced dec (image_of x) (image_of w) kept (layout_of dec (image_of x) kept) place
+
 -- each file that is so rewritten keeps each run of the original
 abbrev pub RewrittenKeeps : Decoder → Type 0
 RewrittenKeeps dec =
@@ -76,15 +80,3 @@ abbrev pub PlacesInCode : Decoder → Type 0
 PlacesInCode dec =
     (x : Image) (kept : Kept) → HasRoom dec x kept → (a : ℕ) → has_node kept.nodes a ≡ true
     → IsInside (layout_of dec x kept).code (place_of dec x kept a)
-
--- a file that is written so for a thin file of bytes keeps its runs, and is inert besides
-abbrev pub ThinFilesKept : Decoder → Type 0
-ThinFilesKept dec =
-    (x w : List ℕ) (kept : Kept) (parts : Parts) (entry : ℕ) → IsThin x → AllByRecursion (λ b. b < 256) x → CanRewrite dec (image_of x) kept
-    → IsRewritten dec (image_of x) kept parts entry → w ≡ written_file x parts entry → Keeps dec x w kept × Inert dec x w kept
-
--- a thin file has 1 to 65,536 kept nodes, and room below its code for their parts
-abbrev pub ThinFilesHaveRoom : Decoder → Type 0
-ThinFilesHaveRoom dec =
-    (x : List ℕ) (kept : Kept) → IsThin x → AllByRecursion (λ b. b < 256) x → CanRewrite dec (image_of x) kept
-    → (1 ≤ node_count kept) × (node_count kept ≤ 65536) × HasRoom dec (image_of x) kept

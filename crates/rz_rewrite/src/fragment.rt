@@ -1,22 +1,23 @@
 //! Fragments: the items that stand for each kept instruction.
 
 ghost use Rattle.std.specs.Prelude.{◌≡◌, ◌+◌, ◌^◌, ◌<◌, [], ◌∷◌, ◌++◌, length, drop, None, All, IfOk};
+ghost use Rattle.rz_elf.specs.Elf.{image_of};
 ghost use Rattle.rz_rewrite.specs.declared.items.Item.TheVariants as item;
 ghost use Rattle.rz_machine.specs.First.{decode_first};
 ghost use Rattle.rz_machine.specs.Insn.{mov_number as mov_number_of};
 ghost use Rattle.rz_rewrite.specs.Fragments.{items_for, items_of, is_following as is_following_label, first_node, fragments, to_label, trimmed};
 ghost use Rattle.rz_machine.specs.Nodes.{code_in, spelled_at};
-ghost use Rattle.rz_machine.specs.TableLaws.{AreBytes};
 ghost use Rattle.rz_rewrite.specs.Spellable.{IsDecodedSpellable, IsFragmentSpellable};
 
 use crate::items::{Fragment, Item, Items, Label};
-use rz_image::memory::Memory;
+use rz_elf::code::code_at;
+use rz_elf::elf::Elf;
 use rz_machine::decode::Decoded;
 use rz_machine::first::First;
 use rz_machine::insn::{Insn, Operand, Place, Reg};
 use rz_machine::table::InsnTable;
 use rz_machine::trace::EdgeSet;
-use rz_num::{OutOfMemory, Width};
+use rz_num::{OutOfMemory, Width, are_bytes};
 use std::alloc::Global;
 use std::marker::Model;
 
@@ -44,22 +45,23 @@ impl Fragments {
     }
 }
 
-/// The fragments of nodes, whose instructions stand in a memory, for the kept edges. Where nothing is decoded at a
-/// node, its fragment ends the run. It refuses for want of memory alone.
+/// The fragments of nodes of a file, for the kept edges. Where nothing is decoded at a node, its fragment ends the run.
+/// It refuses for want of memory alone.
 pub fn fragments_of(
     alloc: Global,
-    memory: &Memory,
+    elf: &Elf,
     nodes: &[u64],
     edges: &EdgeSet,
 ) -> Result<Fragments, OutOfMemory>
     requires low { All (λ a. a < 2 ^ 31) nodes.now }
-    ensures value { IfOk result (λ list. list ≡ fragments decode_first (code_in memory.now) edges.now nodes.now) }
+    ensures value { IfOk result (λ list.
+        list ≡ fragments decode_first (code_in (image_of elf.now.bytes).loads) edges.now nodes.now) }
     ensures spellable { IfOk result (λ list. All IsFragmentSpellable list) }
 {
     let mut items = Vec::new(alloc);
     for i in 0..nodes.len() {
         let at = nodes[i];
-        let decoded = decoded_at(memory, at);
+        let decoded = decoded_at(elf, at);
         let following = node_after(nodes, i);
         items.push(fragment(alloc, at, &decoded, edges, following)?)?;
     }
@@ -67,22 +69,15 @@ pub fn fragments_of(
 }
 
 // What the executable bytes at an address spell.
-fn decoded_at(memory: &Memory, at: u64) -> Decoded
-    ensures value { result ≡ spelled_at decode_first (code_in memory.now) at }
+fn decoded_at(elf: &Elf, at: u64) -> Decoded
+    ensures value { result ≡ spelled_at decode_first (code_in (image_of elf.now.bytes).loads) at }
     ensures spellable { IsDecodedSpellable result }
 {
     let mut out = [0; 15];
-    let n = memory.fetch(at, &mut out);
+    let n = code_at(elf, at, &mut out);
     let bytes = &out[..n as usize];
     are_bytes(bytes);
     First::decode(bytes, at)
-}
-
-// The items of a slice of bytes are bytes.
-pub(crate) fn are_bytes(bytes: &[u8])
-    ensures { AreBytes bytes.now }
-{
-    let _ = bytes;
 }
 
 // The node after the one at a place.

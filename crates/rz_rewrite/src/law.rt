@@ -1,7 +1,7 @@
 //! Laws over the definitions alone.
 
 ghost use Rattle.rz_machine.specs.First.{decode_first};
-ghost use Rattle.rz_rewrite.specs.Rewritten.{RewrittenKeeps, RewrittenPaced, FragmentsFit, PlacesInCode, ThinFilesHaveRoom, ThinFilesKept};
+ghost use Rattle.rz_rewrite.specs.Rewritten.{RewrittenKeeps, RewrittenPaced, FragmentsFit, PlacesInCode};
 
 /// A file whose parts hold the fragments and the stubs of the kept nodes keeps each run of the original, with
 /// one to three steps for each step of it.
@@ -14,11 +14,4 @@ pub fn fragments_keep()
 pub fn fragments_fit()
     ensures fit { FragmentsFit decode_first }
     ensures inside { PlacesInCode decode_first }
-{}
-
-/// The parts that are added to a thin file have room below its code, and the file that is written with them keeps
-/// its runs and is inert.
-pub fn thin_files_are_kept()
-    ensures room { ThinFilesHaveRoom decode_first }
-    ensures kept { ThinFilesKept decode_first }
 {}

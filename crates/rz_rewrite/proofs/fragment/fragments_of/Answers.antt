@@ -1,6 +1,7 @@
 use Rattle.std.proofs.Common.{◌≡◌, get_or, take_all, subst, ◌∙◌}
 use Rattle.std.specs.List.{All}
 use Rattle.std.proofs.lemmas.List.Elements.{All-more, All-same}
+use Rattle.rz_elf.specs.Elf.{image_of}
 use Rattle.rz_machine.specs.First.{decode_first}
 use Rattle.rz_machine.specs.Nodes.{code_in, spelled_at}
 use Rattle.rz_rewrite.specs.Fragments.{fragments}
@@ -11,7 +12,7 @@ use Rattle.rz_rewrite.proofs.fragment.fragments_of.Goals as goal
 
 pub loop-i-preserved : goal.loop-i-preserved
 loop-i-preserved c =
-    let m = code_in c.args.memory.now in
+    let m = code_in (image_of c.args.elf.now.bytes).loads in
     let nodes = c.args.nodes.now in
     let i = c.loop-i.i in
     let decoded = c.decoded_at-decoded in
@@ -25,7 +26,7 @@ loop-i-preserved c =
 
 pub returns : goal.returns
 returns c =
-    let m = code_in c.args.memory.now in
+    let m = code_in (image_of c.args.elf.now.bytes).loads in
     let edges = c.args.edges.now in
     let nodes = c.args.nodes.now in
     let value : c.loop-i.items.items ≡ fragments decode_first m edges nodes = all_fragments decode_first m edges nodes c.loop-i.i c.loop-i.items.items c.loop-i-test.false c.loop-i.invariant.value in
