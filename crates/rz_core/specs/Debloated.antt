@@ -1,5 +1,5 @@
 -- What debloating makes of a file and inputs: the kept set of their runs, the written file, and the report.
-use Rattle.std.specs.Prelude.{◌≡◌, ◌⊎◌, ℕ, suc, List, [], ◌∷◌, length, fold}
+use Rattle.std.specs.Prelude.{◌≡◌, ◌⊎◌, ℕ, suc, List, [], ◌∷◌, length, fold, Option, None}
 use Rattle.std.specs.List.{AllByRecursion}
 use Rattle.rz_machine.specs.declared.machine.Machine.{Machine}
 use Rattle.rz_sys.specs.declared.input.Input.{Input}
@@ -13,6 +13,8 @@ use Rattle.rz_machine.specs.Added.{added, site_count, site_edge_count}
 use Rattle.rz_machine.specs.Keeps.{Keeps}
 use Rattle.rz_machine.specs.Recorded.{IsUncut}
 use Rattle.rz_machine.specs.WrittenFile.{Inert}
+use Rattle.rz_elf.specs.declared.room.Room.{Room}
+use Rattle.rz_rewrite.specs.Refusals.{no_room_for}
 use Rattle.rz_core.specs.Texts.{report_text}
 
 -- the opening state of a traced run
@@ -35,9 +37,14 @@ LeavesFirst limit x k (input ∷ inputs) n address =
     ((n ≡ k) × LeavesCode decode_first limit (traced x input) address)
     ⊎ (StaysInCode decode_first limit (traced x input) × LeavesFirst limit x (suc k) inputs n address)
 
+-- why the parts for what is kept have no room, if they have none
+abbrev pub no_room_of : ℕ → List ℕ → List Input → Option Room
+no_room_of limit x inputs = no_room_for decode_first x (kept_of limit x inputs)
+
 -- w is what debloating makes of x and these inputs with this limit
 pub record IsDebloated (limit : ℕ) (x : List ℕ) (inputs : List Input) (w : List ℕ) : Type 0 where
   pub stay : AllStay limit x inputs
+  pub room : no_room_of limit x inputs ≡ None
   -- each run of w follows x's, up to the first edge that isn't kept
   pub keeps : Keeps decode_first x w (kept_of limit x inputs)
   -- the traced runs take no such edge before they ended or their limit came

@@ -3,7 +3,7 @@ use Rattle.rz_elf.specs.Elf.{fault_of}
 use Rattle.rz_core.specs.declared.status.Status.TheVariants as status
 use Rattle.rz_elf.specs.Loaded.{ElfFile, IsCause}
 use Rattle.rz_core.proofs.ReadLaws.{accepted_whole, fault_whole, of_read}
-use Rattle.rz_core.proofs.check.read_accepted.Goals as goal
+use Rattle.rz_core.proofs.reading.read_accepted.Goals as goal
 
 pub returns-in-Ok-read_elf-clause-read : goal.returns-in-Ok-read_elf-clause-read
 returns-in-Ok-read_elf-clause-read g c = λ told.
