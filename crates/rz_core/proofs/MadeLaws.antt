@@ -1,32 +1,35 @@
 -- What is asked of a file before it is rewritten, and what is made of it.
-use Rattle.std.proofs.Common.{◌≡◌, ℕ, suc, ◌<◌, ◌≤◌, List, [], ◌∷◌, length, None, Some, sym, ap, ap₂, ◌∙◌, subst}
+use Rattle.std.proofs.Common.{◌≡◌, ℕ, suc, ◌<◌, ◌≤◌, List, [], ◌∷◌, length, Option, None, Some, refl, sym, ap, ap₂, ◌∙◌, subst}
 use Rattle.std.specs.Prelude.{slice_index}
 use Rattle.std.specs.List.{AllByRecursion}
 use Rattle.rz_machine.specs.declared.machine.Machine.{Machine}
 use Rattle.rz_sys.specs.declared.input.Input.{Input}
-use Rattle.rz_machine.specs.Kept.{Kept, sorted, sorted_edges}
+use Rattle.rz_machine.specs.Kept.{Kept}
 use Rattle.rz_image.specs.Memory.{NoSelfWritten}
 use Rattle.rz_elf.specs.declared.room.Room.{Room}
 use Rattle.rz_elf.specs.Elf.{image_of, Image}
-use Rattle.rz_machine.specs.First.{decode_first}
+use Rattle.rz_core.specs.Decoding.{decode_early}
 use Rattle.rz_elf.specs.Loaded.{ElfFile, IsRead, loaded}
 use Rattle.rz_machine.specs.Start.{start}
 use Rattle.rz_machine.specs.LeftCode.{StaysInCode}
 use Rattle.rz_machine.specs.Recorded.{IsUncut, StaysPlausible}
-use Rattle.rz_machine.specs.Nodes.{Code, code_in, StandsIn}
+use Rattle.rz_isa.specs.Nodes.{Code}
+use Rattle.rz_machine.specs.Nodes.{code_in, StandsIn}
 use Rattle.rz_machine.proofs.RecordedLaws.{nothing_stands}
 use Rattle.rz_machine.specs.Traced.{with_run}
 use Rattle.rz_machine.specs.WrittenFile.{Inert}
 use Rattle.rz_machine.specs.Keeps.{Keeps}
 use Rattle.rz_machine.specs.Added.{added}
 use Rattle.rz_elf.specs.PlainImage.{IsPlainRegion, IsPlainImage}
-use Rattle.rz_rewrite.specs.Laws.Sites.{sites-first, site_edges-first}
-use Rattle.rz_rewrite.specs.Refusals.{no_room_for}
-use Rattle.rz_rewrite.specs.Rewritten.{CanRewrite}
+use Rattle.rz_rewrite.specs.Laws.Sites.{NoTransferRows, keeps_no_transfers, no_sites, no_site_edges}
+use Rattle.rz_rewrite.specs.Refusals.{rip_reach_of as first_out_of_reach, no_room_for}
+use Rattle.rz_rewrite.specs.Rewritten.{CanRewrite, HasNoTransfers}
+use Rattle.rz_table.specs.declared.early_rows.TheConstants.{EARLY}
+use Rattle.rz_elf.specs.Laws.Loads.{loaded_image}
 use Rattle.rz_image.specs.Laws.Cells.{IsFixed, all_map, none_self_written}
 use Rattle.rz_elf.specs.Laws.PlainAccepted.{accepted_plain}
 use Rattle.rz_core.specs.Texts.{report_text}
-use Rattle.rz_core.specs.Debloated.{traced, kept_of, no_room_of, IsDebloated, report_of}
+use Rattle.rz_core.specs.Debloated.{traced, kept_of, rip_reach_of, no_room_of, IsDebloated, report_of}
 use Rattle.rz_core.specs.Making.{plain_report}
 
 -- each item of a list of bytes is one
@@ -45,43 +48,55 @@ module _ (elf : ElfFile) (is : IsRead elf) where
   traced_is input = ap (λ (i : Image). start i input) (loaded_image elf is)
 
   -- what was recorded from nothing is the kept set
-  pub kept_is : (limit : ℕ) (input : Input) (kept old : Kept) → old ≡ nothing → kept ≡ with_run decode_first limit (start (loaded elf) input) old → kept ≡ kept_of limit elf.bytes (input ∷ [])
-  kept_is limit input kept old o is_with = is_with ∙ ap₂ (λ (s : Machine) (r : Kept). with_run decode_first limit s r) (traced_is input) o
+  pub kept_is : (limit : ℕ) (input : Input) (kept old : Kept) → old ≡ nothing → kept ≡ with_run decode_early limit (start (loaded elf) input) old → kept ≡ kept_of limit elf.bytes (input ∷ [])
+  kept_is limit input kept old o is_with = is_with ∙ ap₂ (λ (s : Machine) (r : Kept). with_run decode_early limit s r) (traced_is input) o
 
   -- none of its code is written by itself, so what is recorded of its runs is plausible
   pub plausible : (bytes : List ℕ) (limit : ℕ) (old new : Kept) → bytes ≡ elf.bytes → ((i : ℕ) → slice_index bytes i < 256) → 1 ≤ limit → old ≡ nothing
-      → StaysPlausible decode_first limit (loaded elf) old new → CanRewrite decode_first (image_of elf.bytes) new
+      → StaysPlausible decode_early limit (loaded elf) old new → CanRewrite decode_early (image_of elf.bytes) new
   plausible bytes limit old new same each some o stays =
       let image : loaded elf ≡ image_of elf.bytes = loaded_image elf is in
       let plain : IsPlainImage (image_of elf.bytes) = accepted_plain elf.bytes (subst (AllByRecursion (λ b. b < 256)) same (each_byte bytes each)) is.accepted in
       let fixed : NoSelfWritten (image_of elf.bytes).loads = none_self_written (image_of elf.bytes).loads (all_map IsPlainRegion IsFixed (λ r k. k.fixed) (image_of elf.bytes).loads plain) in
       let code : Code = code_in (image_of elf.bytes).loads in
-      let stands : StandsIn decode_first code old = subst (StandsIn decode_first code) (sym o) (nothing_stands decode_first code) in
-      subst (λ (i : Image). StaysPlausible decode_first limit i old new) image stays some fixed stands
+      let stands : StandsIn decode_early code old = subst (StandsIn decode_early code) (sym o) (nothing_stands decode_early code) in
+      subst (λ (i : Image). StaysPlausible decode_early limit i old new) image stays some fixed stands
+
+-- the table has no calls, no returns and no jumps by an operand
+pub no_transfers : (x : Image) (kept : Kept) → HasNoTransfers decode_early x kept
+no_transfers = keeps_no_transfers EARLY refl
 
 -- the report names no sites
-pub report_is : (x : List ℕ) (limit : ℕ) (input : Input) (kept : Kept) (report : List ℕ) → kept ≡ kept_of limit x (input ∷ []) → report ≡ plain_report (image_of x) kept → report ≡ report_of limit x (input ∷ [])
-report_is x limit input kept report same e =
-    let m : Code = code_in (image_of x).loads in
+pub report_is : (x : List ℕ) (limit : ℕ) (input : Input) (kept : Kept) (report : List ℕ) → CanRewrite decode_early (image_of x) kept → kept ≡ kept_of limit x (input ∷ [])
+    → report ≡ plain_report (image_of x) kept → report ≡ report_of limit x (input ∷ [])
+report_is x limit input kept report can same e =
     let k : Kept = kept_of limit x (input ∷ []) in
+    let can_k : CanRewrite decode_early (image_of x) k = subst (λ (l : Kept). CanRewrite decode_early (image_of x) l) same can in
+    let none = no_transfers (image_of x) k in
     e
     ∙ ap (plain_report (image_of x)) same
-    ∙ ap₂ (λ (es : List (ℕ × ℕ)) (ns : List ℕ). report_text (added decode_first (image_of x) k).scratch (length k.edges) (length k.nodes) (length es) (length ns)) (sym (site_edges-first m (sorted_edges k.edges))) (sym (sites-first m (sorted k.nodes)))
+    ∙ ap₂ (λ (es : List (ℕ × ℕ)) (ns : List ℕ). report_text (added decode_early (image_of x) k).scratch (length k.edges) (length k.nodes) (length es) (length ns))
+    (sym (no_site_edges decode_early (image_of x) k can_k none)) (sym (no_sites decode_early (image_of x) k can_k none))
 
 -- what is made of a file for the set that its run recorded
 pub debloated_of : (x : List ℕ) (limit : ℕ) (input : Input) (kept : Kept) (w : List ℕ) → kept ≡ kept_of limit x (input ∷ [])
-    → StaysInCode decode_first limit (traced x input) → no_room_for decode_first x kept ≡ None → IsUncut decode_first kept.edges (traced x input) limit
-    → Keeps decode_first x w kept → Inert decode_first x w kept
+    → StaysInCode decode_early limit (traced x input) → first_out_of_reach decode_early x kept ≡ None → no_room_for decode_early x kept ≡ None → IsUncut decode_early kept.edges (traced x input) limit
+    → Keeps decode_early x w kept → Inert decode_early x w kept
     → IsDebloated limit x (input ∷ []) w
-debloated_of x limit input kept w same stays room uncut keeps inert =
+debloated_of x limit input kept w same stays reach room uncut keeps inert =
     record {
       stay = (stays, tt);
-      room = ap (no_room_for decode_first x) (sym same) ∙ room;
-      keeps = subst (Keeps decode_first x w) same keeps;
-      uncut = (subst (λ (k : Kept). IsUncut decode_first k.edges (traced x input) limit) same uncut, tt);
-      inert = subst (Inert decode_first x w) same inert;
+      reach = ap (first_out_of_reach decode_early x) (sym same) ∙ reach;
+      room = ap (no_room_for decode_early x) (sym same) ∙ room;
+      keeps = subst (Keeps decode_early x w) same keeps;
+      uncut = (subst (λ (k : Kept). IsUncut decode_early k.edges (traced x input) limit) same uncut, tt);
+      inert = subst (Inert decode_early x w) same inert;
     }
 
+-- an operand is out of reach, or none is
+pub rip_reach_is : (x : List ℕ) (limit : ℕ) (input : Input) (kept : Kept) (o : Option ℕ) → kept ≡ kept_of limit x (input ∷ []) → first_out_of_reach decode_early x kept ≡ o → rip_reach_of limit x (input ∷ []) ≡ o
+rip_reach_is x limit input kept o same e = ap (first_out_of_reach decode_early x) (sym same) ∙ e
+
 -- there is no room for it
-pub no_room_is : (x : List ℕ) (limit : ℕ) (input : Input) (kept : Kept) (room : Room) → kept ≡ kept_of limit x (input ∷ []) → no_room_for decode_first x kept ≡ Some room → no_room_of limit x (input ∷ []) ≡ Some room
-no_room_is x limit input kept room same e = ap (no_room_for decode_first x) (sym same) ∙ e
+pub no_room_is : (x : List ℕ) (limit : ℕ) (input : Input) (kept : Kept) (room : Room) → kept ≡ kept_of limit x (input ∷ []) → no_room_for decode_early x kept ≡ Some room → no_room_of limit x (input ∷ []) ≡ Some room
+no_room_is x limit input kept room same e = ap (no_room_for decode_early x) (sym same) ∙ e

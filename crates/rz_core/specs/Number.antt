@@ -9,6 +9,7 @@ number_of status.Usage = 1
 number_of (status.Refused file why) = 2
 number_of (status.BadInput input line) = 3
 number_of (status.LeftCode input address) = 5
+number_of (status.RipReach address) = 6
 number_of (status.NoRoom room) = 7
 number_of (status.ReadFault file) = 8
 number_of (status.WriteFault target) = 9

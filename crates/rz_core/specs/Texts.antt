@@ -71,6 +71,7 @@ refusal_text status.Usage = codes "usage\n"
 refusal_text (status.Refused file why) = codes "refused " ++ (file ++ (32 ∷ (fault_text why ++ 10 ∷ [])))
 refusal_text (status.BadInput input line) = codes "bad input " ++ (decimal input ++ (32 ∷ (decimal line ++ 10 ∷ [])))
 refusal_text (status.LeftCode input address) = codes "left code " ++ (decimal input ++ (32 ∷ (hex_text address ++ 10 ∷ [])))
+refusal_text (status.RipReach address) = codes "rip reach " ++ (hex_text address ++ 10 ∷ [])
 refusal_text (status.NoRoom room) = codes "no room " ++ (room_text room ++ 10 ∷ [])
 refusal_text (status.ReadFault file) = codes "read fault " ++ (file ++ 10 ∷ [])
 refusal_text (status.WriteFault target.File) = codes "write fault file\n"

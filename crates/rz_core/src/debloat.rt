@@ -70,6 +70,7 @@ fn prepare<S: Store>(alloc: Global, d: &Debloat<'_>, store: &mut S) -> Result<Ma
     match make(alloc, &elf, &input, d.limit) {
         Ok(made) => Ok(made),
         Err(MakeRefusal::LeftCode(address)) => Err(Status::LeftCode { input: 1, address }),
+        Err(MakeRefusal::RipReach(address)) => Err(Status::RipReach { address }),
         Err(MakeRefusal::NoRoom(room)) => Err(Status::NoRoom(room)),
         Err(MakeRefusal::OutOfMemory) => Err(Status::OutOfMemory),
     }

@@ -89,6 +89,7 @@ pub fn refusal(alloc: Global, status: &Status) -> Result<String, AllocError>
         Status::LeftCode { input, address } => format!(in alloc;
             "left code {input} 0x{address:x}\n"
         ),
+        Status::RipReach { address } => format!(in alloc; "rip reach 0x{address:x}\n"),
         Status::NoRoom(room) => {
             let room = room_text(alloc, *room)?;
             format!(in alloc; "no room {room}\n")

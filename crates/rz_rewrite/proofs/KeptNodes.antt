@@ -1,4 +1,4 @@
--- The kept nodes of a plain image are low, and what is decoded there is spelled; none is a site where no transfer is kept.
+-- The kept nodes of a plain image are low, and what is decoded there is spelled.
 use Rattle.std.proofs.Common.{◌≡◌, ℕ, zero, suc, ◌^◌, ◌<◌, Bool, true, false, ◌&&◌, ◌||◌, ◌==◌, if◌then◌else◌, List, [], ◌∷◌, length, get_or, filter, Option, Some, None, refl, sym, ap, ◌∙◌, subst, arith, eq-eqb}
 use Rattle.std.specs.List.{AllByRecursion}
 use Rattle.std.proofs.lemmas.Bool.{or_left, or_right}
@@ -68,45 +68,3 @@ module _ (rows : List Row) (facts : TableFacts rows) (x : Image) (kept : Kept) w
       all_map (λ a. is_out_of_reach (spelled_at (decoded rows) (code_in x.loads) a) ≡ false) (λ a. IsDecodedSpellable rows (spelled_at (decoded rows) (code_in x.loads) a)) (sorted kept.nodes)
       (λ a reach. decoded_anew rows facts (code_in x.loads a) a (fetched_bytes x fit.plain a) reach)
       (all_in_reach (decoded rows) (code_in x.loads) (sorted kept.nodes) fit.reach)
-
--- ---- sites
-
-filter_none : {A : Type 0} (p : A → Bool) (l : List A) → AllByRecursion (λ a. p a ≡ false) l → filter p l ≡ []
-filter_none p [] h = refl
-filter_none p (a ∷ rest) h = rw h.0 (filter_none p rest h.1)
-
-each_edge : (P : ℕ → Type 0) (edges : Edges) → ((a b : ℕ) → has_edge edges a b ≡ true → P a) → AllByRecursion (λ e. P e.0) edges
-each_edge P [] h = tt
-each_edge P (e ∷ rest) h =
-    (h e.0 e.1 (or_left _ (has_edge rest e.0 e.1) (both (e.0 == e.0) (e.1 == e.1) (eq-eqb e.0 e.0 refl) (eq-eqb e.1 e.1 refl))), each_edge P rest (λ a b m. h a b (or_right _ (has_edge rest a b) m)))
-  where
-    both : (u v : Bool) → u ≡ true → v ≡ true → (u && v) ≡ true
-    both true true p q = refl
-    both true false p q = cc
-    both false v p q = cc
-
-module _ (dec : Decoder) (x : Image) (kept : Kept) (can : CanRewrite dec x kept) (none : HasNoTransfers dec x kept) where
-  no_site : (a : ℕ) → has_node kept.nodes a ≡ true → is_site_at dec (code_in x.loads) a ≡ false
-  no_site a m =
-      let node = can.stands.nodes a m in
-      let P : Decoded → Type 0 = λ d. is_site_at (λ bs at. d) (code_in x.loads) a ≡ false in
-      let go : (w : Way) → way_of node.insn ≡ w → is_site (kind_in w) ≡ false = by node.insn node.len a m node.spelled in
-      subst P (sym node.spelled) (ap is_site (kind_by_way node.insn) ∙ go (way_of node.insn) refl)
-    where
-      by : (y : Insn) (len a : ℕ) → has_node kept.nodes a ≡ true → spelled_at dec (code_in x.loads) a ≡ decodeds.Insn y len → (w : Way) → way_of y ≡ w → is_site (kind_in w) ≡ false
-      by y len a m s Onward is = refl
-      by y len a m s (Jumps target) is = refl
-      by y len a m s (Branches cond target) is = refl
-      by y len a m s (BranchesOnRcx target) is = refl
-      by y len a m s (Transfers t) is = absurd (none a m y len s t is)
-      by y len a m s Calls is = refl
-      by y len a m s (Halts how) is = refl
-
-  pub no_sites : sites dec (code_in x.loads) (sorted kept.nodes) ≡ []
-  no_sites = filter_none (is_site_at dec (code_in x.loads)) (sorted kept.nodes) (each_member (λ a. is_site_at dec (code_in x.loads) a ≡ false) (sorted kept.nodes) (λ a m. no_site a (sym (has_node-sorted kept.nodes a) ∙ m)))
-
-  pub no_site_edges : site_edges dec (code_in x.loads) (sorted_edges kept.edges) ≡ []
-  unfolding sorted_edges
-  no_site_edges =
-      filter_none (λ e. is_site_at dec (code_in x.loads) e.0) (sorted_edges kept.edges)
-      (each_edge (λ a. is_site_at dec (code_in x.loads) a ≡ false) (sorted_edges kept.edges) (λ a b m. no_site a (can.stands.sources a b (sym (has_edge-with_edges [] kept.edges a b) ∙ m))))

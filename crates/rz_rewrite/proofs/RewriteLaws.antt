@@ -21,7 +21,7 @@ use Rattle.rz_machine.specs.Placement.{IsPlaced}
 use Rattle.rz_machine.specs.Start.{start}
 use Rattle.rz_rewrite.specs.declared.added.AddedRange.{AddedRange}
 use Rattle.rz_rewrite.specs.Calls.Plan.{IsPlanned, kept_set}
-use Rattle.rz_rewrite.proofs.KeptNodes.{no_sites, no_site_edges}
+use Rattle.rz_rewrite.specs.Laws.Sites.{no_sites, no_site_edges}
 use Rattle.rz_rewrite.specs.Places.{range_of}
 use Rattle.rz_rewrite.specs.Reach.{first_out_of_reach}
 use Rattle.rz_rewrite.specs.Refusals.{rip_reach_of, no_room_for, size_for}

@@ -5,3 +5,4 @@ pub mod Refusals
 pub mod Spellable
 pub mod Places
 pub mod Calls
+pub mod Laws

@@ -44,6 +44,30 @@ returns-in-Err-LeftCode-clause-cause g c =
       ),
     )
 
+pub returns-in-Err-RipReach-clause-cause : goal.returns-in-Err-RipReach-clause-cause
+returns-in-Err-RipReach-clause-cause g c =
+    let s : StoreCalls = store_calls g.S.Store c.args.store.now c.read_input.new.store in
+    let t : StoreCalls = store_calls g.S.Store c.read_accepted.new.store c.read_input.new.store in
+    let elf = c.in_ok-elf.ensures in
+    let x = c.in_ok-elf.elf.bytes in
+    let input = c.in_ok-input.input in
+    let i = c.in_ok-input.ensures.read in
+    let held = later_held c.args.d.now.input.now i.0 s t elf.telling elf.kept i.1 in
+    let far = subst (MakeRefused c.args.d.now.limit x input) c.in-Err-RipReach.field-0-is c.in-Err-RipReach.ensures.err in
+    inr (
+      (x, elf.read, elf.accepted),
+      inr (
+        (i.0, held, (input, i.2)),
+        (
+          x,
+          input ∷ [],
+          record { exe = elf.read; accepted = elf.accepted; inputs_are = ((i.0, held, i.2), tt) },
+          (far.0, tt),
+          far.1,
+        ),
+      ),
+    )
+
 pub returns-in-Err-NoRoom-clause-cause : goal.returns-in-Err-NoRoom-clause-cause
 returns-in-Err-NoRoom-clause-cause g c =
     let s : StoreCalls = store_calls g.S.Store c.args.store.now c.read_input.new.store in
@@ -64,6 +88,7 @@ returns-in-Err-NoRoom-clause-cause g c =
           record { exe = elf.read; accepted = elf.accepted; inputs_are = ((i.0, held, i.2), tt) },
           (none.0, tt),
           none.1,
+          none.2,
         ),
       ),
     )

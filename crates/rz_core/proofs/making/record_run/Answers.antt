@@ -2,7 +2,7 @@ use Rattle.std.proofs.Common.{ap, subst, ◌∙◌}
 use Rattle.rz_elf.specs.Loaded.{ElfFile, IsRead, loaded}
 use Rattle.rz_machine.specs.Traced.{kept_in, IsRefused}
 use Rattle.rz_machine.specs.declared.machine.Machine.{Machine}
-use Rattle.rz_machine.specs.First.{decode_first}
+use Rattle.rz_core.specs.Decoding.{decode_early}
 use Rattle.rz_machine.specs.LeftCode.{LeavesCode, StaysInCode}
 use Rattle.rz_machine.specs.Recorded.{IsUncut}
 use Rattle.rz_machine.specs.Start.{start}
@@ -23,16 +23,16 @@ returns-in-Ok-clause-plausible c =
 pub returns-in-Ok-clause-stays : goal.returns-in-Ok-clause-stays
 returns-in-Ok-clause-stays c =
     let is : IsRead c.args.elf.now = subst IsRead c.elf.view_is c.elf.invariant in
-    subst (StaysInCode decode_first c.args.limit) (traced_is c.args.elf.now is c.args.input.now) c.in-Ok.ensures.stays
+    subst (StaysInCode decode_early c.args.limit) (traced_is c.args.elf.now is c.args.input.now) c.in-Ok.ensures.stays
 
 pub returns-in-Ok-clause-uncut : goal.returns-in-Ok-clause-uncut
 returns-in-Ok-clause-uncut c =
     let is : IsRead c.args.elf.now = subst IsRead c.elf.view_is c.elf.invariant in
-    subst (λ (s : Machine). IsUncut decode_first c.trace.new.rec.edges s c.args.limit) (traced_is c.args.elf.now is c.args.input.now) c.in-Ok.ensures.uncut
+    subst (λ (s : Machine). IsUncut decode_early c.trace.new.rec.edges s c.args.limit) (traced_is c.args.elf.now is c.args.input.now) c.in-Ok.ensures.uncut
 
 pub returns-in-Err-LeftCode-clause-err : goal.returns-in-Err-LeftCode-clause-err
 returns-in-Err-LeftCode-clause-err c =
     let is : IsRead c.args.elf.now = subst IsRead c.elf.view_is c.elf.invariant in
     let s : Machine = start (loaded c.args.elf.now) c.args.input.now in
-    let refused = subst (IsRefused decode_first c.args.limit s (kept_in c.new-kept.result) (kept_in c.trace.new.rec)) c.in-Err-LeftCode.field-0-is c.in-Err-LeftCode.ensures.refused in
-    subst (λ (t : Machine). LeavesCode decode_first c.args.limit t c.in-Err-LeftCode.address) (traced_is c.args.elf.now is c.args.input.now) refused.0
+    let refused = subst (IsRefused decode_early c.args.limit s (kept_in c.new-kept.result) (kept_in c.trace.new.rec)) c.in-Err-LeftCode.field-0-is c.in-Err-LeftCode.ensures.refused in
+    subst (λ (t : Machine). LeavesCode decode_early c.args.limit t c.in-Err-LeftCode.address) (traced_is c.args.elf.now is c.args.input.now) refused.0
