@@ -63,7 +63,8 @@ fn emit_items(
 fn emit_item(item: &Item, layout: &Layout, here: u64, out: &mut Bytes) -> Result<(), OutOfMemory>
     requires low { here + len_of_item item.now < 2 ^ 31 }
     requires spellable { IsSpellable item.now }
-    ensures { OnOk result (out.new ≡ out.old ++ spelling (resolved_item (address_in layout.now) item.now) here) }
+    ensures { OnOk result
+        (out.new ≡ out.old ++ spelling (resolved_item (address_in layout.now) item.now) here) }
 {
     match item {
         Item::Whole(insn) => encode(insn, here, out),

@@ -2,7 +2,7 @@
 
 ghost use Rattle.std.specs.Prelude.{◌≡◌, ◌+◌, ◌-◌, ◌*◌, ◌^◌, ◌<◌, ◌≤◌, ◌++◌, length, replicate, All, None, Some, IfOk, IfErr, OnOk};
 ghost use Rattle.rz_image.specs.Memory.{zeros};
-ghost use Rattle.rz_elf.specs.AddedRange.{all_stubs, code_size, filled as filled_with, parts_below, stub_size, stubs_size, tables_size};
+ghost use Rattle.rz_elf.specs.AddedRange.{all_stubs, filled as filled_with, stub_size};
 ghost use Rattle.rz_elf.specs.Elf.{image_of};
 ghost use Rattle.rz_elf.specs.Room.{extent_of, no_room};
 ghost use Rattle.rz_machine.specs.Added.{added};
@@ -13,7 +13,7 @@ ghost use Rattle.rz_machine.specs.WrittenFile.{Inert};
 ghost use Rattle.rz_rewrite.specs.Fragments.{fragments_bytes, total_len};
 ghost use Rattle.rz_rewrite.specs.Places.{address_in, range_of};
 ghost use Rattle.rz_rewrite.specs.Refusals.{IsRefusal, no_room_for, size_for};
-ghost use Rattle.rz_rewrite.specs.Calls.Plan.{IsPlanned, kept_set};
+ghost use Rattle.rz_rewrite.specs.Calls.Plan.{IsPlanned, kept_set, range_for};
 ghost use Rattle.rz_rewrite.specs.Rewritten.{CanRewrite, HasPlacement, IsRewritten};
 ghost use Rattle.rz_rewrite.specs.Spellable.{IsFragmentSpellable};
 
@@ -87,8 +87,7 @@ pub fn rewrite(alloc: Global, elf: &Elf, kept: &Record) -> Result<New, Refusal>
 // Where the parts for this many nodes lie, or why there is no room for them.
 fn added_range(elf: &Elf, nodes: u64) -> Result<AddedRange, Room>
     requires { nodes ≤ 2 ^ 31 }
-    ensures range { IfOk result (λ range. range_of range
-        ≡ parts_below (tables_size 0 0) (code_size nodes 0 0) (stubs_size nodes) (extent_of elf.now.bytes).floor) }
+    ensures range { IfOk result (λ range. range_of range ≡ range_for nodes (extent_of elf.now.bytes).floor) }
     ensures room { OnOk result (no_room (extent_of elf.now.bytes) (size_for nodes 0 0) ≡ None) }
     ensures refused { IfErr result (λ room.
         no_room (extent_of elf.now.bytes) (size_for nodes 0 0) ≡ Some room) }
@@ -142,8 +141,8 @@ fn new_parts(
     range: &AddedRange,
 ) -> Result<NewParts, OutOfMemory>
     requires can { IsPlanned elf.now.bytes nodes.now edges.now range.now }
-    ensures { IfOk result (λ new.
-        IsRewritten decode_first (image_of elf.now.bytes) (kept_set nodes.now edges.now) new.parts new.entry) }
+    ensures { IfOk result (λ new. IsRewritten decode_first
+        (image_of elf.now.bytes) (kept_set nodes.now edges.now) new.parts new.entry) }
 {
     let fragments = fragments_of(alloc, elf, nodes, edges)?;
     let list = fragments.as_slice();
