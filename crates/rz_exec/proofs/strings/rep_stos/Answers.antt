@@ -1,12 +1,8 @@
-use Rattle.std.proofs.Common.{refl, rules}
-use Rattle.rz_exec.proofs.Repeats.{remains_next, remains_ends, remains_none}
+use Rattle.std.proofs.Common.{true, ◌∙◌}
+use Rattle.rz_exec.specs.Strings.{stos_effect}
+use Rattle.rz_exec.proofs.Repeats.{none_left}
 use Rattle.rz_exec.proofs.strings.rep_stos.Goals as goal
 
-pub loop-preserved : goal.loop-preserved
-loop-preserved c = (remains_next _ _ _ _ _ _ _ _ _ _ c.loop.invariant.0 c.loop-test.true c.in_default.ensures.done refl, search rules)
-
-pub returns-in-Err-clause-done : goal.returns-in-Err-clause-done
-returns-in-Err-clause-done c = remains_ends _ _ _ _ _ _ _ _ _ _ _ c.loop.invariant.0 c.loop-test.true c.in-Err.ensures.done refl
-
 pub returns-clause-done : goal.returns-clause-done
-returns-clause-done c = remains_none _ _ _ _ _ _ _ _ _ c.loop.invariant.0 c.loop-test.false
+returns-clause-done c =
+    none_left (stos_effect c.args.w true) c.loop-cpu.cpu.regs c.loop-cpu.cpu.flags c.loop-cpu.mem c.loop-cpu-test.false ∙ c.loop-cpu.invariant.same
