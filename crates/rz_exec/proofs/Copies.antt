@@ -14,7 +14,7 @@ use Rattle.rz_image.specs.Laws.Parts.{bytes_parts, put_parts, none_refused, puts
 use Rattle.rz_exec.specs.Form.{NewValues, Effect, Completion, allowed, after_write, after_first, carry, iterate}
 use Rattle.rz_exec.specs.Calls.Carried.{AreBytes}
 use Rattle.rz_exec.specs.Strings.{moved, counted, movs_effect, each_time}
-use Rattle.rz_exec.proofs.Repeats.{next}
+use Rattle.rz_exec.proofs.Iterations.{next}
 
 -- ---- bytes of numbers
 

@@ -13,7 +13,7 @@ use Rattle.rz_image.specs.Laws.Parts.{put_parts, none_refused, puts_alike}
 use Rattle.rz_exec.specs.Form.{NewValues, Effect, Completion, allowed, after_write, carry, iterate}
 use Rattle.rz_exec.specs.Strings.{moved, counted, stos_effect, each_time}
 use Rattle.rz_exec.specs.Calls.Carried.{pattern_of}
-use Rattle.rz_exec.proofs.Repeats.{next}
+use Rattle.rz_exec.proofs.Iterations.{next}
 use Rattle.rz_exec.proofs.Copies.{span, bytes_back}
 
 -- so many copies of bytes, one after the other

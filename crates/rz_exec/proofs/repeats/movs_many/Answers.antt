@@ -2,7 +2,7 @@ use Rattle.std.proofs.Common.{◌≡◌, ◌/◌, ◌<◌, ◌^◌, length, get_
 use Rattle.rz_exec.specs.Form.{iterate}
 use Rattle.rz_exec.specs.Strings.{movs_effect, each_time}
 use Rattle.rz_exec.proofs.Copies.{span, copied, copied_bytes, spans_64}
-use Rattle.rz_exec.proofs.strings.movs_many.Goals as goal
+use Rattle.rz_exec.proofs.repeats.movs_many.Goals as goal
 
 pub returns-clause-same : goal.returns-clause-same
 returns-clause-same c =

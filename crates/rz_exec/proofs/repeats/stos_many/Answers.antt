@@ -7,7 +7,7 @@ use Rattle.rz_exec.specs.Form.{iterate}
 use Rattle.rz_exec.specs.Strings.{stos_effect, each_time}
 use Rattle.rz_exec.proofs.Copies.{span}
 use Rattle.rz_exec.proofs.Stores.{copies, stored, stored_bytes, spans_8, pattern_bytes}
-use Rattle.rz_exec.proofs.strings.stos_many.Goals as goal
+use Rattle.rz_exec.proofs.repeats.stos_many.Goals as goal
 
 pub returns-clause-same : goal.returns-clause-same
 returns-clause-same c =

@@ -1,7 +1,7 @@
 use Rattle.std.proofs.Common.{◌<◌, get_or, refl, sym, ◌∙◌, subst}
 use Rattle.rz_exec.specs.declared.state.Cpu.{Cpu}
-use Rattle.rz_exec.proofs.Repeats.{one_done, one_ends}
-use Rattle.rz_exec.proofs.strings.movs_on.Goals as goal
+use Rattle.rz_exec.proofs.Iterations.{one_done, one_ends}
+use Rattle.rz_exec.proofs.repeats.movs_on.Goals as goal
 
 pub returns-in-Err-clause-err : goal.returns-in-Err-clause-err
 returns-in-Err-clause-err c =

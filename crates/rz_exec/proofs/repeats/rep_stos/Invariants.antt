@@ -1,7 +1,7 @@
 use Rattle.std.proofs.Common.{◌≡◌, true, get_or}
 use Rattle.rz_exec.specs.Strings.{stos_effect}
 use Rattle.rz_exec.specs.Calls.Carried.{Remains}
-use Rattle.rz_exec.proofs.strings.rep_stos.Given as goal
+use Rattle.rz_exec.proofs.repeats.rep_stos.Given as goal
 
 abbrev pub invariant-loop-cpu : goal.invariant-loop-cpu
 invariant-loop-cpu l = record {

@@ -1,7 +1,7 @@
 use Rattle.std.proofs.Common.{true, ◌∙◌}
 use Rattle.rz_exec.specs.Strings.{movs_effect}
-use Rattle.rz_exec.proofs.Repeats.{none_left}
-use Rattle.rz_exec.proofs.strings.rep_movs.Goals as goal
+use Rattle.rz_exec.proofs.Iterations.{none_left}
+use Rattle.rz_exec.proofs.repeats.rep_movs.Goals as goal
 
 pub returns-clause-done : goal.returns-clause-done
 returns-clause-done c =
