@@ -1,5 +1,5 @@
 -- Effects of plain instructions evaluated, with values by hand from the Intel SDM: each group, its edges and its order.
-use Rattle.std.proofs.Common.{◌≡◌, ℕ, pos, count_ones, ◌%◌, ◌==◌, Bool, true, false, List, [], ◌∷◌, Some, None, refl}
+use Rattle.std.proofs.Common.{◌≡◌, ℕ, pos, ◌-ℤ◌, count_ones, ◌%◌, ◌==◌, Bool, true, false, List, [], ◌∷◌, Some, None, refl}
 use Rattle.rz_num.specs.declared.width.Width.TheVariants.{W8, W16, W32, W64}
 use Rattle.rz_flags.specs.declared.Flags.{Flags}
 use Rattle.rz_flags.specs.declared.ArithOp.TheVariants as arith
@@ -284,3 +284,197 @@ complement_carry = refl
 not_plain : after (insn.Ret 8) (rax 1) clear ≡ whole (rax 1) clear
 unfolding after whole regs rax clear memory bytes plain_effect carry
 not_plain = refl
+
+-- ---- each operation and form of operand
+
+-- AH alone
+or_high_byte : after (insn.Arith arith.Or W8 (place.Reg (High 0)) (operand.Imm 0x0f)) (rax 0x1234f0) carry_set ≡ whole (rax 0x123ff0) (record clear { pf = even 0x3f })
+unfolding after whole regs rax clear carry_set even memory bytes plain_effect carry
+or_high_byte = refl
+
+and_memory : after (insn.Arith arith.And W16 (place.At 32) (operand.Place (reg 0))) (rax 0xff00) clear ≡ record { regs = rax 0xff00; flags = record clear { pf = even 0 }; mem = bytes (0 ∷ 2 ∷ 3 ∷ 4 ∷ 5 ∷ 6 ∷ 7 ∷ 8 ∷ 9 ∷ 10 ∷ 11 ∷ 12 ∷ 13 ∷ 14 ∷ 15 ∷ 16 ∷ []) (0 ∷ 1 ∷ 0 ∷ 0 ∷ 0 ∷ 0 ∷ 0 ∷ 0 ∷ []); exception = None }
+unfolding after regs rax clear reg even memory bytes plain_effect carry cell_at refused bytes_at put_byte put_bytes
+and_memory = refl
+
+-- destination and source are one
+xor_itself : after (insn.Arith arith.Xor W64 (reg 0) (operand.Place (reg 0))) (rax 0xffff_ffff_ffff) carry_set ≡ whole (rax 0) (record clear { zf = true; pf = even 0 })
+unfolding after whole regs rax clear carry_set reg even memory bytes plain_effect carry
+xor_itself = refl
+
+-- 0 - 1 - 1, the second operand read
+subtract_with_borrow : after (insn.Arith arith.Sbb W8 (reg 0) (operand.Place (place.At 32))) (rax 0x100) carry_set ≡ whole (rax 0x1fe) (record clear { cf = true; af = true; sf = true; pf = even 0xfe })
+unfolding after whole regs rax clear carry_set reg even memory bytes plain_effect carry cell_at refused bytes_at
+subtract_with_borrow = refl
+
+-- TEST writes nothing
+test : after (insn.Test W32 (reg 0) (operand.Imm 0x8000_0000)) (rax 0xffff_8000_0000) carry_set ≡ whole (rax 0xffff_8000_0000) (record clear { sf = true; pf = even 0 })
+unfolding after whole regs rax clear carry_set reg even memory bytes plain_effect carry
+test = refl
+
+invert : after (insn.Unary unary.Not W16 (reg 0)) (rax 0x1_00ff) carry_set ≡ whole (rax 0x1_ff00) carry_set
+unfolding after whole regs rax carry_set reg clear memory bytes plain_effect carry
+invert = refl
+
+negate : after (insn.Unary unary.Neg W8 (reg 0)) (rax 1) clear ≡ whole (rax 0xff) (record clear { cf = true; af = true; sf = true; pf = even 0xff })
+unfolding after whole regs rax clear reg even memory bytes plain_effect carry
+negate = refl
+
+-- the least number overflows, CF is left, and the upper half is cleared
+decrement : after (insn.Unary unary.Dec W32 (reg 0)) (rax 0xf_8000_0000) carry_set ≡ whole (rax 0x7fff_ffff) (record carry_set { of = true; af = true; pf = even 0xff })
+unfolding after whole regs rax carry_set reg even clear memory bytes plain_effect carry
+decrement = refl
+
+-- CH to memory
+move_high_byte : after (insn.Mov W8 (place.At 33) (operand.Place (place.Reg (High 1)))) (regs 0 0xab00 0 0 0 0 0) clear ≡ record { regs = regs 0 0xab00 0 0 0 0 0; flags = clear; mem = bytes (1 ∷ 0xab ∷ 3 ∷ 4 ∷ 5 ∷ 6 ∷ 7 ∷ 8 ∷ 9 ∷ 10 ∷ 11 ∷ 12 ∷ 13 ∷ 14 ∷ 15 ∷ 16 ∷ []) (0 ∷ 1 ∷ 0 ∷ 0 ∷ 0 ∷ 0 ∷ 0 ∷ 0 ∷ []); exception = None }
+unfolding after regs clear memory bytes plain_effect carry cell_at refused bytes_at put_byte put_bytes
+move_high_byte = refl
+
+-- by RSP and a displacement below 0
+move_by_stack_pointer : after (insn.Mov W64 (reg 0) (operand.Place (place.Mem (record { base = Some 4; index = None; scale = 1; disp = pos 0 -ℤ pos 8 })))) (regs 0 0 0 40 0 0 0) clear ≡ whole (regs 0x0807_0605_0403_0201 0 0 40 0 0 0) clear
+unfolding after whole regs clear reg memory bytes plain_effect carry cell_at refused bytes_at
+move_by_stack_pointer = refl
+
+-- an address is cut to 32 bits
+load_address_half : after (insn.Lea W32 0 (place.At 0x1_2345_6789)) (rax 0) clear ≡ whole (rax 0x2345_6789) clear
+unfolding after whole regs rax clear memory bytes plain_effect carry cell_at refused bytes_at
+load_address_half = refl
+
+-- a byte to 16 bits leaves the rest
+extend_by_zeros : after (insn.Extend false W16 W8 0 (place.At 47)) (rax 0xffff_ffff) clear ≡ whole (rax 0xffff_0010) clear
+unfolding after whole regs rax clear memory bytes plain_effect carry cell_at refused bytes_at
+extend_by_zeros = refl
+
+extend_half : after (insn.Extend true W64 W32 0 (reg 1)) (regs 0 0x8000_0000 0 0 0 0 0) clear ≡ whole (regs 0xffff_ffff_8000_0000 0x8000_0000 0 0 0 0 0) clear
+unfolding after whole regs clear reg memory bytes plain_effect carry
+extend_half = refl
+
+-- AL to AX leaves the rest
+convert_byte : after (insn.Convert W16) (rax 0x5_0080) clear ≡ whole (rax 0x5_ff80) clear
+unfolding after whole regs rax clear memory bytes plain_effect carry
+convert_byte = refl
+
+fill_by_zeros : after (insn.SignFill W64) (regs 5 0 9 0 0 0 0) clear ≡ whole (regs 5 0 0 0 0 0 0) clear
+unfolding after whole regs clear memory bytes plain_effect carry
+fill_by_zeros = refl
+
+push_immediate : after (insn.Push (operand.Imm 0xffff_ffff_ffff_ffff)) (regs 0 0 0 40 0 0 0) clear ≡ record { regs = regs 0 0 0 32 0 0 0; flags = clear; mem = bytes (0xff ∷ 0xff ∷ 0xff ∷ 0xff ∷ 0xff ∷ 0xff ∷ 0xff ∷ 0xff ∷ 9 ∷ 10 ∷ 11 ∷ 12 ∷ 13 ∷ 14 ∷ 15 ∷ 16 ∷ []) (0 ∷ 1 ∷ 0 ∷ 0 ∷ 0 ∷ 0 ∷ 0 ∷ 0 ∷ []); exception = None }
+unfolding after regs clear memory bytes plain_effect carry cell_at refused bytes_at put_byte put_bytes
+push_immediate = refl
+
+-- the word at RSP before
+push_by_stack_pointer : after (insn.Push (operand.Place (behind 4))) (regs 0 0 0 40 0 0 0) clear ≡ record { regs = regs 0 0 0 32 0 0 0; flags = clear; mem = bytes (9 ∷ 10 ∷ 11 ∷ 12 ∷ 13 ∷ 14 ∷ 15 ∷ 16 ∷ 9 ∷ 10 ∷ 11 ∷ 12 ∷ 13 ∷ 14 ∷ 15 ∷ 16 ∷ []) (0 ∷ 1 ∷ 0 ∷ 0 ∷ 0 ∷ 0 ∷ 0 ∷ 0 ∷ []); exception = None }
+unfolding after regs clear behind memory bytes plain_effect carry cell_at refused bytes_at put_byte put_bytes
+push_by_stack_pointer = refl
+
+-- the word is stored at the RSP that grew
+pop_behind_itself : after (insn.Pop (behind 4)) (regs 0 0 0 32 0 0 0) clear ≡ record { regs = regs 0 0 0 40 0 0 0; flags = clear; mem = bytes (1 ∷ 2 ∷ 3 ∷ 4 ∷ 5 ∷ 6 ∷ 7 ∷ 8 ∷ 1 ∷ 2 ∷ 3 ∷ 4 ∷ 5 ∷ 6 ∷ 7 ∷ 8 ∷ []) (0 ∷ 1 ∷ 0 ∷ 0 ∷ 0 ∷ 0 ∷ 0 ∷ 0 ∷ []); exception = None }
+unfolding after regs clear behind memory bytes plain_effect carry cell_at refused bytes_at put_byte put_bytes
+pop_behind_itself = refl
+
+-- 0x0c0b0a09 has CF and OF, and none of TF, NT, AC and ID
+pop_flags : after insn.PopFlags (regs 0 0 0 40 0 0 0) clear ≡ whole (regs 0 0 0 48 0 0 0) (record clear { cf = true; of = true })
+unfolding after whole regs clear memory bytes plain_effect carry cell_at refused bytes_at
+pop_flags = refl
+
+-- both halves clear their upper half
+multiply_half : after (insn.Wide wide.Mul W32 (reg 1)) (regs 0xf_ffff_ffff 2 0xf_0000_0000 0 0 0 0) clear ≡ whole (regs 0xffff_fffe 2 1 0 0 0 0) (record clear { cf = true; of = true })
+unfolding after whole regs clear reg memory bytes plain_effect carry
+multiply_half = refl
+
+-- -7 by 2, toward zero
+divide_signed : after (insn.Wide wide.Idiv W32 (reg 1)) (regs 0xffff_fff9 2 0xffff_ffff 0 0 0 0) clear ≡ whole (regs 0xffff_fffd 2 0xffff_ffff 0 0 0 0) clear
+unfolding after whole regs clear reg memory bytes plain_effect carry
+divide_signed = refl
+
+-- the divisor at 54 is 0
+divide_by_zero : after (insn.Wide wide.Div W16 (place.At 54)) (rax 1) clear ≡ record (whole (rax 1) clear) { exception = Some (Own Divide) }
+unfolding after whole regs rax clear memory bytes plain_effect carry cell_at refused bytes_at
+divide_by_zero = refl
+
+-- a read that faults comes before
+divisor_unread : after (insn.Wide wide.Div W16 (place.At 55)) (rax 1) clear ≡ record (whole (rax 1) clear) { exception = Some (Memory 56) }
+unfolding after whole regs rax clear memory bytes plain_effect carry cell_at refused bytes_at
+divisor_unread = refl
+
+multiply_cut : after (insn.Imul2 W16 0 (reg 1)) (regs 0x5_4000 4 0 0 0 0 0) clear ≡ whole (regs 0x5_0000 4 0 0 0 0 0) (record clear { cf = true; of = true })
+unfolding after whole regs clear reg memory bytes plain_effect carry
+multiply_cut = refl
+
+shift_signed : after (insn.Shift shift.Sar W8 (reg 0) (count.Imm 1)) (rax 0x81) clear ≡ whole (rax 0xc0) (record clear { cf = true; sf = true; pf = even 0xc0 })
+unfolding after whole regs rax clear reg even memory bytes plain_effect carry
+shift_signed = refl
+
+shift_past_the_width : after (insn.Shift shift.Shl W8 (reg 0) (count.Imm 9)) (rax 1) carry_set ≡ whole (rax 0) (record clear { zf = true; pf = even 0 })
+unfolding after whole regs rax clear carry_set reg even memory bytes plain_effect carry
+shift_past_the_width = refl
+
+-- by the width: the same value, and CF and OF
+rotate_whole : after (insn.Shift shift.Rol W8 (reg 0) (count.Imm 8)) (rax 0x81) clear ≡ whole (rax 0x81) carry_set
+unfolding after whole regs rax clear carry_set reg memory bytes plain_effect carry
+rotate_whole = refl
+
+rotate_right : after (insn.Shift shift.Ror W8 (place.At 32) (count.Imm 1)) (rax 0) clear ≡ record { regs = rax 0; flags = record clear { cf = true; of = true }; mem = bytes (0x80 ∷ 2 ∷ 3 ∷ 4 ∷ 5 ∷ 6 ∷ 7 ∷ 8 ∷ 9 ∷ 10 ∷ 11 ∷ 12 ∷ 13 ∷ 14 ∷ 15 ∷ 16 ∷ []) (0 ∷ 1 ∷ 0 ∷ 0 ∷ 0 ∷ 0 ∷ 0 ∷ 0 ∷ []); exception = None }
+unfolding after regs rax clear memory bytes plain_effect carry cell_at refused bytes_at put_byte put_bytes
+rotate_right = refl
+
+double_shift_right : after (insn.DoubleShift false W32 (reg 0) 1 (count.Imm 4)) (regs 0x1234_5678 0xabcd_ef01 0 0 0 0 0) clear ≡ whole (regs 0x1123_4567 0xabcd_ef01 0 0 0 0 0) (record clear { cf = true; pf = even 0x67 })
+unfolding after whole regs clear reg even memory bytes plain_effect carry
+double_shift_right = refl
+
+failed_move_16 : after (insn.Cmov cond.B W16 0 (reg 1)) (regs 0xffff_1234 7 0 0 0 0 0) clear ≡ whole (regs 0xffff_1234 7 0 0 0 0 0) clear
+unfolding after whole regs clear reg memory bytes plain_effect carry
+failed_move_16 = refl
+
+failed_move_64 : after (insn.Cmov cond.B W64 0 (reg 1)) (regs 0xffff_0000_1234 7 0 0 0 0 0) clear ≡ whole (regs 0xffff_0000_1234 7 0 0 0 0 0) clear
+unfolding after whole regs clear reg memory bytes plain_effect carry
+failed_move_64 = refl
+
+move_where_it_holds : after (insn.Cmov cond.B W16 0 (reg 1)) (regs 0xffff_1234 7 0 0 0 0 0) carry_set ≡ whole (regs 0xffff_0007 7 0 0 0 0 0) carry_set
+unfolding after whole regs carry_set reg clear memory bytes plain_effect carry
+move_where_it_holds = refl
+
+-- 0 where the condition fails
+set_high_byte : after (insn.Set cond.B (place.Reg (High 0))) (rax 0xffff) clear ≡ whole (rax 0x00ff) clear
+unfolding after whole regs rax clear memory bytes plain_effect carry
+set_high_byte = refl
+
+-- both are cut
+exchange_halves : after (insn.Xchg W32 (reg 0) (R 1)) (regs 0xf_0000_0001 0xf_0000_0002 0 0 0 0 0) clear ≡ whole (regs 2 1 0 0 0 0 0) clear
+unfolding after whole regs clear reg memory bytes plain_effect carry
+exchange_halves = refl
+
+exchange_refused : after (insn.Xchg W8 (place.At 48) (R 0)) (rax 5) clear ≡ record (whole (rax 5) clear) { exception = Some (Memory 48) }
+unfolding after whole regs rax clear memory bytes plain_effect carry cell_at refused bytes_at
+exchange_refused = refl
+
+swap_eight_bytes : after (insn.Bswap W64 0) (rax 0x0102_0304_0506_0708) clear ≡ whole (rax 0x0807_0605_0403_0201) clear
+unfolding after whole regs rax clear memory bytes plain_effect carry
+swap_eight_bytes = refl
+
+-- in memory
+reset_bit : after (insn.BitTest bit.Reset W16 (place.At 32) (index.Imm 0)) (rax 0) clear ≡ record { regs = rax 0; flags = carry_set; mem = bytes (0 ∷ 2 ∷ 3 ∷ 4 ∷ 5 ∷ 6 ∷ 7 ∷ 8 ∷ 9 ∷ 10 ∷ 11 ∷ 12 ∷ 13 ∷ 14 ∷ 15 ∷ 16 ∷ []) (0 ∷ 1 ∷ 0 ∷ 0 ∷ 0 ∷ 0 ∷ 0 ∷ 0 ∷ []); exception = None }
+unfolding after regs rax clear carry_set memory bytes plain_effect carry cell_at refused bytes_at put_byte put_bytes
+reset_bit = refl
+
+-- bit 65 modulo 64
+complement_bit : after (insn.BitTest bit.Complement W64 (reg 0) (index.Reg 1)) (regs 0 65 0 0 0 0 0) carry_set ≡ whole (regs 2 65 0 0 0 0 0) clear
+unfolding after whole regs clear carry_set reg memory bytes plain_effect carry
+complement_bit = refl
+
+-- BT needs no right to write
+test_bit_unwritten : after (insn.BitTest bit.Test W16 (place.At 48) (index.Imm 8)) (rax 0) clear ≡ whole (rax 0) carry_set
+unfolding after whole regs rax clear carry_set memory bytes plain_effect carry cell_at refused bytes_at
+test_bit_unwritten = refl
+
+-- RCX is left
+copy_once : after (insn.Movs W32 false) (regs 0 3 0 0 0 32 40) clear ≡ record { regs = regs 0 3 0 0 0 36 44; flags = clear; mem = bytes (1 ∷ 2 ∷ 3 ∷ 4 ∷ 5 ∷ 6 ∷ 7 ∷ 8 ∷ 1 ∷ 2 ∷ 3 ∷ 4 ∷ 13 ∷ 14 ∷ 15 ∷ 16 ∷ []) (0 ∷ 1 ∷ 0 ∷ 0 ∷ 0 ∷ 0 ∷ 0 ∷ 0 ∷ []); exception = None }
+unfolding after regs clear memory bytes plain_effect carry cell_at refused bytes_at put_byte put_bytes
+copy_once = refl
+
+store_down : after (insn.Stos W8 false) (regs 0x1ff 0 0 0 0 0 33) (record clear { df = true }) ≡ record { regs = regs 0x1ff 0 0 0 0 0 32; flags = record clear { df = true }; mem = bytes (1 ∷ 0xff ∷ 3 ∷ 4 ∷ 5 ∷ 6 ∷ 7 ∷ 8 ∷ 9 ∷ 10 ∷ 11 ∷ 12 ∷ 13 ∷ 14 ∷ 15 ∷ 16 ∷ []) (0 ∷ 1 ∷ 0 ∷ 0 ∷ 0 ∷ 0 ∷ 0 ∷ 0 ∷ []); exception = None }
+unfolding after regs clear memory bytes plain_effect carry cell_at refused bytes_at put_byte put_bytes
+store_down = refl
+
+clear_direction : after (insn.Flag flag.Cld) (rax 1) (record carry_set { df = true }) ≡ whole (rax 1) carry_set
+unfolding after whole regs rax carry_set clear memory bytes plain_effect carry
+clear_direction = refl

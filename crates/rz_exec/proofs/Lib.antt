@@ -1,2 +1,4 @@
 pub mod EffectRows
-pub mod Repeats
+pub mod Iterations
+pub mod Copies
+pub mod Stores

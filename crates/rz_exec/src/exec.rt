@@ -9,7 +9,8 @@ ghost use Rattle.rz_exec.specs.Fault.{completion, plain_completion};
 
 use crate::state::{Cpu, Fault};
 use crate::{
-    arithmetic, bits, conditions, exchanges, flag_changes, moves, products, shifts, stack, strings,
+    arithmetic, bits, conditions, exchanges, flag_changes, moves, products, repeats, shifts, stack,
+    strings,
 };
 use rz_flags::ArithOp;
 use rz_image::memory::Memory;
@@ -75,9 +76,9 @@ fn exec(insn: &Insn, cpu: &mut Cpu, mem: &mut Memory) -> Result<(), Fault>
         Insn::BitTest { op, w, dst, index } => bits::bit_test(op, w, dst, index, cpu, mem),
         Insn::Scan { op, w, dst, src } => bits::scan(op, w, dst, src, cpu, mem),
         Insn::Movs { w, rep: false } => strings::movs(w, false, cpu, mem),
-        Insn::Movs { w, rep: true } => strings::rep_movs(w, cpu, mem),
+        Insn::Movs { w, rep: true } => repeats::rep_movs(w, cpu, mem),
         Insn::Stos { w, rep: false } => strings::stos(w, false, cpu, mem),
-        Insn::Stos { w, rep: true } => strings::rep_stos(w, cpu, mem),
+        Insn::Stos { w, rep: true } => repeats::rep_stos(w, cpu, mem),
         Insn::Flag { op } => {
             cpu.flags = flag_changes::changed(op, cpu.flags);
             Ok(())

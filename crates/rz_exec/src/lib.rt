@@ -12,10 +12,13 @@ mod moves;
 pub mod operands;
 mod products;
 pub mod registers;
+mod repeats;
 mod shifts;
 mod stack;
 mod state;
 mod strings;
+#[cfg(test)]
+mod tests;
 
 pub use exec::exec_plain;
 pub use state::{Cpu, Fault};

@@ -1,10 +1,10 @@
 //! Elements of strings.
 
-ghost use Rattle.std.specs.Prelude.{◌≡◌, IsTrue, true};
+ghost use Rattle.std.specs.Prelude.{◌≡◌, ◌-◌, IsTrue, get_or, OnOk};
 ghost use Rattle.rz_image.specs.Word.{byte_count as byte_count_of};
 ghost use Rattle.rz_exec.specs.Strings.{moved, counted, movs_effect, stos_effect};
 ghost use Rattle.rz_exec.specs.Effect.{is_reg};
-ghost use Rattle.rz_exec.specs.Calls.Carried.{ended, carried, repeated};
+ghost use Rattle.rz_exec.specs.Calls.Carried.{ended, carried};
 
 use crate::memory::{read, write};
 use crate::registers::{get_reg, put_reg};
@@ -21,7 +21,7 @@ const RSI: u8 = 6;
 
 const RDI: u8 = 7;
 
-fn byte_count(w: Width) -> u64
+pub(crate) fn byte_count(w: Width) -> u64
     ensures { result ≡ byte_count_of w }
 {
     match w {
@@ -48,7 +48,8 @@ fn move_on(w: Width, flags: Flags, n: u8, regs: &mut [u64; 16])
 
 // Counts RCX down in a repeat.
 fn count_down(rep: bool, regs: &mut [u64; 16])
-    ensures { regs.new ≡ counted rep regs.old }
+    ensures regs { regs.new ≡ counted rep regs.old }
+    ensures count { IsTrue rep → get_or regs.new 1 0 ≡ get_or regs.old 1 0 - 1 }
 {
     if rep {
         let left = regs[1].saturating_sub(1);
@@ -59,6 +60,7 @@ fn count_down(rep: bool, regs: &mut [u64; 16])
 #[tactic(auto, unfolding(crate::specs::Form::carry))]
 pub(crate) fn movs(w: Width, rep: bool, cpu: &mut Cpu, mem: &mut Memory) -> Result<(), Fault>
     ensures done { ended cpu.new mem.new result ≡ carried (movs_effect w rep) cpu.old mem.old }
+    ensures count { IsTrue rep → OnOk result (get_or cpu.new.regs 1 0 ≡ get_or cpu.old.regs 1 0 - 1) }
     ensures rip { cpu.new.rip ≡ cpu.old.rip }
     ensures flags { cpu.new.flags ≡ cpu.old.flags }
 {
@@ -73,6 +75,7 @@ pub(crate) fn movs(w: Width, rep: bool, cpu: &mut Cpu, mem: &mut Memory) -> Resu
 #[tactic(auto, unfolding(crate::specs::Form::carry))]
 pub(crate) fn stos(w: Width, rep: bool, cpu: &mut Cpu, mem: &mut Memory) -> Result<(), Fault>
     ensures done { ended cpu.new mem.new result ≡ carried (stos_effect w rep) cpu.old mem.old }
+    ensures count { IsTrue rep → OnOk result (get_or cpu.new.regs 1 0 ≡ get_or cpu.old.regs 1 0 - 1) }
     ensures rip { cpu.new.rip ≡ cpu.old.rip }
     ensures flags { cpu.new.flags ≡ cpu.old.flags }
 {
@@ -80,33 +83,5 @@ pub(crate) fn stos(w: Width, rep: bool, cpu: &mut Cpu, mem: &mut Memory) -> Resu
     write(mem, w, Some(cpu.regs[7]), word)?;
     move_on(w, cpu.flags, RDI, &mut cpu.regs);
     count_down(rep, &mut cpu.regs);
-    Ok(())
-}
-
-// As many elements as RCX says, up to one that faults.
-pub(crate) fn rep_movs(w: Width, cpu: &mut Cpu, mem: &mut Memory) -> Result<(), Fault>
-    ensures done { ended cpu.new mem.new result ≡ repeated (movs_effect w true) cpu.old mem.old }
-    ensures rip { cpu.new.rip ≡ cpu.old.rip }
-{
-    let count = cpu.regs[1];
-    for _ in 0..count {
-        if let Err(fault) = movs(w, true, cpu, mem) {
-            return Err(fault);
-        }
-    }
-    Ok(())
-}
-
-// As many elements as RCX says, up to one that faults.
-pub(crate) fn rep_stos(w: Width, cpu: &mut Cpu, mem: &mut Memory) -> Result<(), Fault>
-    ensures done { ended cpu.new mem.new result ≡ repeated (stos_effect w true) cpu.old mem.old }
-    ensures rip { cpu.new.rip ≡ cpu.old.rip }
-{
-    let count = cpu.regs[1];
-    for _ in 0..count {
-        if let Err(fault) = stos(w, true, cpu, mem) {
-            return Err(fault);
-        }
-    }
     Ok(())
 }

@@ -5,3 +5,4 @@ pub mod Zeros
 pub mod Find
 pub mod Run
 pub mod Turns
+pub mod Parts

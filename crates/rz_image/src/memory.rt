@@ -1,13 +1,13 @@
 //! The memory of a run.
 
-ghost use Rattle.std.specs.Prelude.{◌≡◌, ◌+◌, ◌^◌, ◌<◌, ◌≤◌, length, take, nat_le, IsTrue, IfOk, IfErr, OnOk, OnErr, Some, None};
-ghost use Rattle.rz_image.specs.Memory.{Ascend, bytes_at, bytes_in, fetch as fetch_at, is_allowed, is_readable, is_writable, reopened, set_open as opened_to};
+ghost use Rattle.std.specs.Prelude.{◌≡◌, ◌+◌, ◌^◌, ◌<◌, ◌≤◌, length, take, nat_le, false, IsTrue, IfOk, IfErr, OnOk, OnErr, Some, None};
+ghost use Rattle.rz_image.specs.Memory.{Ascend, bytes_at, bytes_in, fetch as fetch_at, is_allowed, is_readable, is_writable, put_bytes, refused, reopened, set_open as opened_to};
 ghost use Rattle.rz_image.specs.Word.{put_word, refused_word, word_at};
 
 use crate::access::Access;
 use crate::region::{Region, Touch};
 use crate::runs::{all_allow, copy, fetch};
-use crate::words::{load, store};
+use crate::words::{load, load_run, put_run, store};
 use rz_num::{Bytes, OutOfMemory, Width};
 use std::alloc::Global;
 use std::marker::Model;
@@ -59,6 +59,26 @@ impl Memory {
         ensures unchanged { OnErr result (self.new ≡ self.old) }
     {
         store(self.regions.as_mut_slice(), at, width, value)
+    }
+
+    /// Fills `out` with the bytes from an address on, where one region has them all and lets them be read, and says
+    /// whether it did.
+    pub fn load_run(&self, at: u64, out: &mut [u8]) -> bool
+        ensures done { IsTrue result → out.new ≡ bytes_at self.now at (length out.old) }
+        ensures allowed { IsTrue result → refused is_readable self.now at (length out.old) ≡ None }
+    {
+        load_run(self.regions.as_slice(), at, out)
+    }
+
+    /// Writes bytes from an address on, where one region has them all and lets them be written, and says whether it
+    /// did; else nothing is changed. There is one byte at least.
+    pub fn store_run(&mut self, at: u64, bytes: &[u8]) -> bool
+        requires { 0 < length bytes.now }
+        ensures stored { IsTrue result → self.new ≡ put_bytes self.old at bytes.now }
+        ensures allowed { IsTrue result → refused is_writable self.old at (length bytes.now) ≡ None }
+        ensures unchanged { result ≡ false → self.new ≡ self.old }
+    {
+        put_run(self.regions.as_mut_slice(), at, bytes)
     }
 
     /// The executable bytes at an address, up to the first that isn't, and at most 15: how many there are.

@@ -51,6 +51,20 @@ pub fn store(regions: &mut [Region], at: u64, width: Width, value: u64) -> Resul
     Ok(())
 }
 
+/// Fills `out` with the bytes from an address on where one region opens them all, and says whether it did.
+pub fn load_run(regions: &[Region], at: u64, out: &mut [u8]) -> bool
+    requires { Ascend regions.now }
+    ensures done { IsTrue result → out.new ≡ bytes_at regions.now at (length out.old) }
+    ensures allowed { IsTrue result → refused_at is_readable regions.now at (length out.old) ≡ None }
+{
+    let run = run_at(regions, at, Access::Read);
+    if run.len() < out.len() {
+        return false;
+    }
+    out.copy_from_slice(&run[..out.len()]);
+    true
+}
+
 fn byte_count(width: Width) -> usize
     ensures { result ≡ byte_count_of width }
 {
@@ -101,8 +115,8 @@ fn bytes_from(regions: &[Region], at: u64) -> [u8; 8]
     bytes
 }
 
-// Writes bytes where one region opens them all, and says whether it did.
-fn put_run(regions: &mut [Region], at: u64, bytes: &[u8]) -> bool
+/// Writes bytes where one region opens them all, and says whether it did.
+pub fn put_run(regions: &mut [Region], at: u64, bytes: &[u8]) -> bool
     requires ascend { Ascend regions.old }
     requires some { 0 < length bytes.now }
     ensures done { IsTrue result → regions.new ≡ put_bytes regions.old at bytes.now }
