@@ -1,7 +1,7 @@
 use Rattle.std.proofs.Common.{◌≡◌, ◌+◌, ◌-◌, length, ap, sym, ◌∙◌, arith}
 use Rattle.rz_image.specs.declared.access.Access.TheVariants.{Read}
 use Rattle.rz_image.specs.Memory.{refused, is_readable}
-use Rattle.rz_image.proofs.RunLaws.{refused_run, refused_all, bytes_run}
+use Rattle.rz_image.specs.Laws.Run.{refused_run, refused_all, bytes_run}
 use Rattle.rz_image.proofs.words.load_run.Goals as goal
 
 pub returns-clause-done : goal.returns-clause-done
