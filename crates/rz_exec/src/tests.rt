@@ -24,18 +24,15 @@ const CLEAR: Flags = Flags {
     of: false,
 };
 
-// Three hundred bytes at 0x1000 that may be written: 0 to 255, and again from 0.
+// Three hundred bytes at 0x1000 that may be written, each 7.
 fn memory(alloc: Global) -> Result<Memory, OutOfMemory> {
-    let mut bytes = Bytes::new(alloc);
-    for k in 0..300 {
-        bytes.push((k % 256) as u8)?;
-    }
-    let opened = bytes.as_slice().len().min(300) as u64;
+    let mut bytes: Vec<u8> = Vec::new(alloc);
+    bytes.resize(300, 7)?;
     let mut regions = Vec::new(alloc);
     regions.push(Region {
         base: 0x1000,
-        bytes,
-        opened,
+        bytes: Bytes::from_vec(bytes),
+        opened: 300,
         perm: Perm::of_flags(6),
     })?;
     Ok(Memory::new(regions))
@@ -79,10 +76,11 @@ fn counts_and_searches(rt: HostRuntime) -> Result<(), Fail> {
     Ok(())
 }
 
-// The word at RSI is added, and the sum pushed.
+// The word behind RSI is added, and the sum pushed.
 #[test]
 fn sums_and_pushes(rt: HostRuntime) -> Result<(), Fail> {
     let mut mem = memory(rt.alloc())?;
+    assert!(rt; mem.store(0x1021, Width::W16, 0x2221).is_ok());
     let mut cpu = cpu(1, 0, 0x1020, 0);
     let word = Place::Mem(Mem {
         base: Some(6),
@@ -111,6 +109,9 @@ fn sums_and_pushes(rt: HostRuntime) -> Result<(), Fail> {
 #[test]
 fn copies_onto_themselves(rt: HostRuntime) -> Result<(), Fail> {
     let mut mem = memory(rt.alloc())?;
+    assert!(rt; mem.store(0x1000, Width::W32, 0x0302_0100).is_ok());
+    assert!(rt; mem.store(0x1062, Width::W32, 0x6564_6362).is_ok());
+    assert!(rt; mem.store(0x10f8, Width::W32, 0xfbfa_f9f8).is_ok());
     let mut cpu = cpu(0, 150, 0x1000, 0x1064);
     let insn = Insn::Movs {
         w: Width::W8,
@@ -123,7 +124,7 @@ fn copies_onto_themselves(rt: HostRuntime) -> Result<(), Fail> {
     );
     assert_eq!(rt; mem.load(0x1064, Width::W32), Ok(0x0302_0100));
     assert_eq!(rt; mem.load(0x10c6, Width::W32), Ok(0x0100_6362));
-    assert_eq!(rt; mem.load(0x10f8, Width::W32), Ok(0xfbfa_3130));
+    assert_eq!(rt; mem.load(0x10f8, Width::W32), Ok(0xfbfa_0707));
     Ok(())
 }
 
