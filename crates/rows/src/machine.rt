@@ -4,12 +4,12 @@ use crate::fault::Fault;
 use crate::text::{add_digits, add_line};
 use rz_elf::fault::ElfError;
 use rz_elf::read::read_elf;
-use rz_table::Early;
 use rz_machine::machine::{End, Outcome};
 use rz_machine::start::start;
 use rz_num::{Bytes, OutOfMemory};
 use rz_sys::event::Event;
 use rz_sys::input::Input;
+use rz_table::Early;
 use std::alloc::{AllocError, Global};
 
 // The registers in the order of their numbers.

@@ -21,7 +21,7 @@ use Rattle.rz_machine.specs.WrittenFile.{Inert}
 use Rattle.rz_machine.specs.Keeps.{Keeps}
 use Rattle.rz_machine.specs.Added.{added}
 use Rattle.rz_elf.specs.PlainImage.{IsPlainRegion, IsPlainImage}
-use Rattle.rz_rewrite.specs.Laws.Sites.{NoTransferRows, keeps_no_transfers, no_sites, no_site_edges}
+use Rattle.rz_rewrite.specs.Laws.Sites.{keeps_no_transfers, no_sites, no_site_edges}
 use Rattle.rz_rewrite.specs.Refusals.{rip_reach_of as first_out_of_reach, no_room_for}
 use Rattle.rz_rewrite.specs.Rewritten.{CanRewrite, HasNoTransfers}
 use Rattle.rz_table.specs.declared.early_rows.TheConstants.{EARLY}
