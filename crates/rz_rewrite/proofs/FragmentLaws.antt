@@ -138,8 +138,10 @@ module _ (rows : List Row) (facts : TableFacts rows) where
   pub fragments_spellable : (m : Code) (edges : Edges) (nodes : List ℕ) → AllByRecursion (λ a. a < 2 ^ 31) nodes → AllByRecursion (λ a. IsDecodedSpellable rows (spelled_at (decoded rows) m a)) nodes
       → AllByRecursion (IsFragmentSpellable rows) (fragments (decoded rows) m edges nodes)
   fragments_spellable m edges [] low spellable = tt
-  fragments_spellable m edges (a ∷ rest) low spellable =
-      (record {
-        chosen_all = All-from_recursion (IsChosen rows) _ (trimmed_chosen (first_node rest) _ (items_chosen edges a (spelled_at (decoded rows) m a) low.0 spellable.0));
-        spelled_all = trimmed_spellable (first_node rest) edges a (spelled_at (decoded rows) m a) low.0 spellable.0;
-      }, fragments_spellable m edges rest low.1 spellable.1)
+  fragments_spellable m edges (a ∷ rest) low spellable = (
+    record {
+      chosen_all = All-from_recursion (IsChosen rows) _ (trimmed_chosen (first_node rest) _ (items_chosen edges a (spelled_at (decoded rows) m a) low.0 spellable.0));
+      spelled_all = trimmed_spellable (first_node rest) edges a (spelled_at (decoded rows) m a) low.0 spellable.0;
+    },
+    fragments_spellable m edges rest low.1 spellable.1,
+  )
