@@ -17,7 +17,7 @@ use Rattle.rz_machine.specs.declared.way.Way.TheVariants.{Onward, Jumps, Branche
 use Rattle.rz_machine.specs.declared.way.Halt.{Halt}
 use Rattle.rz_machine.specs.declared.way.Halt.TheVariants as halt
 use Rattle.rz_machine.specs.Way.{way_of}
-use Rattle.rz_exec.specs.Form.{Exception, Memory, Own, Divide, Popped, Completion, carry, PlainEffect, complete}
+use Rattle.rz_exec.specs.Form.{Exception, Memory, Own, Divide, Popped, Completion, carry, complete}
 use Rattle.rz_exec.specs.Attempts.{PlainClear}
 use Rattle.rz_exec.specs.Effect.{plain_effect}
 use Rattle.rz_machine.specs.Action.{end_by}

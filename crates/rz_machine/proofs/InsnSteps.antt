@@ -1,5 +1,5 @@
 -- The step of a running state where an instruction stands.
-use Rattle.std.proofs.Common.{◌≡◌, ℕ, ◌+◌, true, false, is_some, Option, Some, None, Result, Ok, Err, OnOk, refl, sym, ap, ◌∙◌}
+use Rattle.std.proofs.Common.{◌≡◌, ℕ, ◌+◌, false, is_some, Option, Some, None, Result, Ok, Err, OnOk, refl, sym, ap, ◌∙◌}
 use Rattle.rz_isa.specs.declared.instruction.Insn.{Insn}
 use Rattle.rz_isa.specs.declared.decoding.Decoded.TheVariants as decoded
 use Rattle.rz_isa.specs.Nodes.{Decoder}

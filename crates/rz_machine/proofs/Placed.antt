@@ -1,10 +1,10 @@
 -- Instructions at places in memory: from bytes that may be executed to what they spell.
-use Rattle.std.proofs.Common.{◌≡◌, ℕ, suc, ◌+◌, ◌-◌, ◌^◌, ◌<◌, ◌≤◌, nat_lt, IsTrue, List, [], ◌∷◌, ◌++◌, length, map, get_or, None, Some, refl, sym, ap, ap₂, ◌∙◌, subst, arith, mod-eq_of_lt, length-append}
+use Rattle.std.proofs.Common.{◌≡◌, ℕ, suc, ◌+◌, ◌-◌, ◌^◌, ◌<◌, ◌≤◌, nat_lt, IsTrue, List, [], ◌∷◌, ◌++◌, length, get_or, Some, refl, sym, ap, ◌∙◌, subst, arith, mod-eq_of_lt}
 use Rattle.std.proofs.lemmas.Bool.{and_parts}
 use Rattle.rz_num.specs.Bytes.{are_bytes}
 use Rattle.rz_isa.specs.declared.instruction.Insn.{Insn}
 use Rattle.rz_isa.specs.declared.decoding.Decoded.TheVariants as decoded
-use Rattle.rz_image.specs.Memory.{Regions, cell_at, code_of, fetched, fetch, wrap}
+use Rattle.rz_image.specs.Memory.{Regions, cell_at, code_of, fetched, fetch}
 use Rattle.rz_isa.specs.Nodes.{Decoder}
 use Rattle.rz_machine.specs.Placement.{InsnAt}
 

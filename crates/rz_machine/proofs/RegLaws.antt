@@ -1,6 +1,5 @@
 -- Registers stay sixteen words below 2^64.
-use Rattle.std.proofs.Common.{◌≡◌, ℕ, zero, suc, ◌+◌, ◌^◌, ◌<◌, ◌≤◌, true, false, List, [], ◌∷◌, length, set, Option, Some, None, Result, Ok, Err, refl, sym, ◌∙◌, subst, arith, length-set}
-use Rattle.std.specs.List.{AllByRecursion}
+use Rattle.std.proofs.Common.{ℕ, ◌+◌, ◌≤◌, true, false, Option, Some, None, arith}
 use Rattle.rz_num.specs.declared.width.Width.TheVariants.{W64}
 use Rattle.rz_flags.specs.declared.Flags.{Flags}
 use Rattle.rz_flags.specs.Word.{flags_word, bit_of}

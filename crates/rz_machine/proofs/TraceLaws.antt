@@ -1,7 +1,6 @@
 -- What a run begins: its instructions stand in the file, and its edges are what the instructions lead to.
 use Rattle.std.proofs.Common.{◌≡◌, ℕ, zero, suc, ◌+◌, ◌⊎◌, inl, inr, ⊎_elim, Bool, true, false, if◌then◌else◌, ◌&&◌, ◌||◌, ◌==◌, List, [], ◌∷◌, ◌++◌, get_or, Option, Some, None, refl, sym, ap, ap₂, ◌∙◌, subst, eqb-true, eq-eqb}
 use Rattle.std.proofs.lemmas.Bool.{and_parts, or_left, or_right}
-use Rattle.rz_flags.specs.declared.Flags.{Flags}
 use Rattle.rz_flags.specs.Cond.{holds}
 use Rattle.rz_isa.specs.declared.instruction.Insn.{Insn}
 use Rattle.rz_isa.specs.declared.decoding.Decoded.{Decoded}
@@ -16,8 +15,7 @@ use Rattle.rz_machine.specs.declared.way.Transfer.TheVariants as transfer
 use Rattle.rz_machine.specs.declared.way.Halt.TheVariants as halt
 use Rattle.rz_machine.specs.declared.way.Way.TheVariants.{Onward, Jumps, Branches, BranchesOnRcx, Transfers, Calls, Halts}
 use Rattle.rz_machine.specs.Way.{way_of}
-use Rattle.rz_isa.specs.declared.instruction.Kind.{Kind}
-use Rattle.rz_isa.specs.Insn.{kind_of, target_of}
+use Rattle.rz_isa.specs.Insn.{kind_of}
 use Rattle.rz_isa.specs.Nodes.{is_site, direct_by, direct}
 use Rattle.rz_machine.proofs.WayLaws.{kind_in, target_in, kind_by_way, target_by_way}
 use Rattle.rz_exec.specs.Form.{Exception, Memory, Own, Divide, Popped, Completion}

@@ -5,7 +5,6 @@ use Rattle.rz_num.specs.declared.width.Width.TheVariants.{W64}
 use Rattle.rz_flags.specs.declared.Flags.{Flags}
 use Rattle.rz_flags.specs.Cond.{holds}
 use Rattle.rz_isa.specs.declared.instruction.Insn.{Insn}
-use Rattle.rz_isa.specs.declared.instruction.Place.{Place}
 use Rattle.rz_machine.specs.declared.way.Transfer.{Transfer}
 use Rattle.rz_machine.specs.declared.way.Transfer.TheVariants as transfer
 use Rattle.rz_machine.specs.declared.way.Halt.{Halt}

@@ -1,5 +1,5 @@
 -- The items that a fragment is made of have spellings at low addresses, with the lengths that items have.
-use Rattle.std.proofs.Common.{◌≡◌, ℕ, pos, ◌+◌, ◌-◌, ◌%◌, ◌^◌, ◌<◌, ◌≤◌, Bool, true, false, List, [], ◌∷◌, length, take, Option, Some, None, IsSome, IsTrue, IsSomeAnd, is_some, refl, sym, ap, ◌∙◌, subst, arith}
+use Rattle.std.proofs.Common.{◌≡◌, ℕ, ◌+◌, ◌-◌, ◌%◌, ◌^◌, ◌<◌, ◌≤◌, true, List, length, Option, Some, None, IsTrue, IsSomeAnd, is_some, refl, sym, ap, ◌∙◌, subst, arith}
 use Rattle.std.proofs.lemmas.Bool.Decides.{nat_tests}
 use Rattle.rz_flags.specs.declared.Cond.{Cond}
 use Rattle.rz_isa.specs.declared.rows.Row.{Row}

@@ -1,8 +1,8 @@
 -- What fragments have: their nodes, and items with spellings.
-use Rattle.std.proofs.Common.{◌≡◌, ℕ, suc, ◌+◌, ◌^◌, ◌<◌, ◌≤◌, Bool, true, false, if◌then◌else◌, nat_le, List, [], ◌∷◌, length, take, Option, Some, None, IsSome, IsTrue, is_some, refl, sym, ap, ◌∙◌, subst, arith, mod-eq_of_lt}
-use Rattle.std.specs.List.{All, AllByRecursion}
+use Rattle.std.proofs.Common.{◌≡◌, ℕ, suc, ◌+◌, ◌^◌, ◌<◌, ◌≤◌, Bool, true, false, if◌then◌else◌, nat_le, List, [], ◌∷◌, length, take, Option, Some, None, IsSome, IsTrue, refl, sym, ap, ◌∙◌, subst, arith, mod-eq_of_lt}
+use Rattle.std.specs.List.{AllByRecursion}
 use Rattle.std.proofs.lemmas.List.{length-take-le}
-use Rattle.std.proofs.lemmas.List.Elements.{All-from_recursion, recursion_from_All}
+use Rattle.std.proofs.lemmas.List.Elements.{All-from_recursion}
 use Rattle.std.proofs.lemmas.Bool.Decides.{nat_tests}
 use Rattle.rz_num.specs.Bytes.{are_bytes}
 use Rattle.rz_isa.specs.declared.rows.Row.{Row}
@@ -11,15 +11,14 @@ use Rattle.rz_isa.specs.declared.decoding.Decoded.{Decoded}
 use Rattle.rz_isa.specs.declared.decoding.Decoded.TheVariants as decodeds
 use Rattle.rz_isa.specs.declared.instruction.Insn.{Insn}
 use Rattle.rz_isa.specs.declared.instruction.Insn.TheVariants as insn
-use Rattle.rz_isa.specs.Canonical.{Chosen, canonical, chosen, spelled_at as spelled_by}
+use Rattle.rz_isa.specs.Canonical.{Chosen, chosen, spelled_at as spelled_by}
 use Rattle.rz_isa.specs.Decoded.{decoded}
-use Rattle.rz_isa.specs.Insn.{target_of, rip_target_of}
+use Rattle.rz_isa.specs.Insn.{rip_target_of}
 use Rattle.rz_isa.specs.Nodes.{Decoder, Code, spelled_at}
 use Rattle.rz_isa.specs.Targets.{NamesLow}
 use Rattle.rz_rewrite.specs.declared.items.Label.{Label}
 use Rattle.rz_rewrite.specs.declared.items.Label.TheVariants as label
 use Rattle.rz_rewrite.specs.declared.items.Item.{Item}
-use Rattle.rz_rewrite.specs.declared.items.Item.TheVariants as item
 use Rattle.rz_image.specs.Memory.{wrap}
 use Rattle.rz_machine.specs.declared.way.Way.{Way}
 use Rattle.rz_machine.specs.declared.way.Way.TheVariants.{Onward, Jumps, Branches, BranchesOnRcx, Transfers, Calls, Halts}
@@ -27,7 +26,7 @@ use Rattle.rz_machine.specs.Way.{way_of}
 use Rattle.rz_machine.specs.Kept.{Edges}
 use Rattle.rz_machine.specs.Placement.{mov_number}
 use Rattle.rz_machine.proofs.WayLaws.{target_in, target_by_way}
-use Rattle.rz_rewrite.specs.Fragments.{items_by, items_of, items_for, items_len, trimmed, is_needless, first_node, fragments, address_within}
+use Rattle.rz_rewrite.specs.Fragments.{items_by, items_for, items_len, trimmed, is_needless, first_node, fragments, address_within}
 use Rattle.rz_rewrite.specs.Places.{nodes_of}
 use Rattle.rz_rewrite.specs.Reach.{is_high, is_out_of_reach}
 use Rattle.rz_rewrite.specs.Spellable.{HasSpelling, IsChosen, AllSpelled, AreLow, AreSpellable, IsFragmentSpellable, IsDecodedSpellable}
@@ -138,8 +137,10 @@ module _ (rows : List Row) (facts : TableFacts rows) where
   pub fragments_spellable : (m : Code) (edges : Edges) (nodes : List ℕ) → AllByRecursion (λ a. a < 2 ^ 31) nodes → AllByRecursion (λ a. IsDecodedSpellable rows (spelled_at (decoded rows) m a)) nodes
       → AllByRecursion (IsFragmentSpellable rows) (fragments (decoded rows) m edges nodes)
   fragments_spellable m edges [] low spellable = tt
-  fragments_spellable m edges (a ∷ rest) low spellable =
-      (record {
-        chosen_all = All-from_recursion (IsChosen rows) _ (trimmed_chosen (first_node rest) _ (items_chosen edges a (spelled_at (decoded rows) m a) low.0 spellable.0));
-        spelled_all = trimmed_spellable (first_node rest) edges a (spelled_at (decoded rows) m a) low.0 spellable.0;
-      }, fragments_spellable m edges rest low.1 spellable.1)
+  fragments_spellable m edges (a ∷ rest) low spellable = (
+    record {
+      chosen_all = All-from_recursion (IsChosen rows) _ (trimmed_chosen (first_node rest) _ (items_chosen edges a (spelled_at (decoded rows) m a) low.0 spellable.0));
+      spelled_all = trimmed_spellable (first_node rest) edges a (spelled_at (decoded rows) m a) low.0 spellable.0;
+    },
+    fragments_spellable m edges rest low.1 spellable.1,
+  )

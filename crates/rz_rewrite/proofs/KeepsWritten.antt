@@ -1,16 +1,11 @@
 -- A rewritten file keeps each run of the original.
-use Rattle.std.proofs.Common.{◌≡◌, ℕ, ◌+◌, ◌-◌, ◌*◌, ◌^◌, ◌<◌, ◌≤◌, true, List, [], ◌∷◌, ◌++◌, length, map, get_or, replicate, is_some, Some, None, IsTrue, refl, sym, ap, ◌∙◌, subst, subst₂, arith, append_assoc}
-use Rattle.std.specs.List.{All, AllByRecursion}
-use Rattle.std.proofs.lemmas.List.Elements.{recursion_from_All}
+use Rattle.std.proofs.Common.{◌≡◌, ℕ, ◌+◌, ◌-◌, ◌*◌, ◌^◌, ◌<◌, ◌≤◌, true, List, [], ◌∷◌, ◌++◌, length, map, replicate, IsTrue, refl, sym, ap, ◌∙◌, subst, subst₂, arith, append_assoc}
 use Rattle.rz_num.specs.Bytes.{are_bytes}
 use Rattle.rz_isa.specs.declared.rows.Row.{Row}
-use Rattle.rz_isa.specs.declared.rows.Form.TheVariants.{Near}
-use Rattle.rz_isa.specs.declared.decoding.Decoded.{Decoded}
-use Rattle.rz_isa.specs.declared.decoding.Decoded.TheVariants as decodeds
 use Rattle.rz_isa.specs.declared.instruction.Insn.{Insn}
 use Rattle.rz_isa.specs.declared.instruction.Insn.TheVariants as insn
 use Rattle.rz_isa.specs.Decoded.{decoded}
-use Rattle.rz_isa.specs.Nodes.{Decoder, spelled_at}
+use Rattle.rz_isa.specs.Nodes.{Decoder}
 use Rattle.rz_rewrite.specs.declared.items.Item.{Item}
 use Rattle.rz_rewrite.specs.declared.items.Label.{Label}
 use Rattle.rz_rewrite.specs.declared.items.Label.TheVariants as label
@@ -21,7 +16,7 @@ use Rattle.rz_machine.specs.Way.{way_of}
 use Rattle.rz_sys.specs.declared.input.Input.{Input}
 use Rattle.rz_machine.specs.Kept.{Kept, has_node, sorted}
 use Rattle.rz_image.specs.Memory.{Regions, IsOutside, SameCell, Alike, NoSelfWritten, cell_at, fetch, wrap}
-use Rattle.rz_machine.specs.Start.{start, heap_region, stack_region, first_regs, first_rsp}
+use Rattle.rz_machine.specs.Start.{start, heap_region, stack_region}
 use Rattle.rz_elf.specs.Elf.{Image}
 use Rattle.rz_machine.specs.Added.{Layout, node_count, added, layout_of}
 use Rattle.rz_elf.specs.AddedRange.{Added, all_stubs}
@@ -35,12 +30,12 @@ use Rattle.rz_machine.proofs.StartCode.{start_code}
 use Rattle.rz_rewrite.specs.Fragments.{items_of, items_by, items_for, trimmed, items_len, address_of, address_within, items_bytes, bytes_or_none, spelling}
 use Rattle.rz_elf.specs.PlainImage.{IsPlainImage}
 use Rattle.rz_rewrite.specs.Rewritten.{IsFit, IsRewritten, fragments_of, place_of, code_of_nodes}
-use Rattle.rz_rewrite.specs.Spellable.{AllSpelled, HasSpelling, IsDecodedSpellable}
+use Rattle.rz_rewrite.specs.Spellable.{AllSpelled}
 use Rattle.rz_rewrite.specs.Calls.Table.{TableFacts}
 use Rattle.rz_machine.proofs.Placed.{BytesAt}
 use Rattle.rz_machine.specs.Placement.{InsnAt, FragmentAt, IsPlacement, IsPlaced}
 use Rattle.rz_machine.proofs.PlacedRuns.{placements_keep}
-use Rattle.rz_rewrite.proofs.SpelledItems.{ItemsAt, insn_of_spelling, items_stand, spelled}
+use Rattle.rz_rewrite.proofs.SpelledItems.{ItemsAt, insn_of_spelling, items_stand}
 use Rattle.rz_rewrite.proofs.EmittedItems.{ud2_spelled}
 use Rattle.rz_rewrite.proofs.Trimmed.{length-trimmed, length-items_of, third_item, fragment_stands}
 use Rattle.rz_rewrite.proofs.Emitted.{items, Found, found}

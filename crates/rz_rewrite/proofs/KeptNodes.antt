@@ -1,26 +1,16 @@
 -- The kept nodes of a plain image are low, and what is decoded there is spelled.
-use Rattle.std.proofs.Common.{◌≡◌, ℕ, zero, suc, ◌^◌, ◌<◌, Bool, true, false, ◌&&◌, ◌||◌, ◌==◌, if◌then◌else◌, List, [], ◌∷◌, length, get_or, filter, Option, Some, None, refl, sym, ap, ◌∙◌, subst, arith, eq-eqb}
+use Rattle.std.proofs.Common.{◌≡◌, ℕ, zero, suc, ◌^◌, ◌<◌, Bool, true, false, ◌==◌, if◌then◌else◌, List, [], ◌∷◌, length, get_or, Some, None, refl, sym, ◌∙◌, arith, eq-eqb}
 use Rattle.std.specs.List.{AllByRecursion}
 use Rattle.std.proofs.lemmas.Bool.{or_left, or_right}
 use Rattle.rz_isa.specs.declared.rows.Row.{Row}
-use Rattle.rz_isa.specs.declared.decoding.Decoded.{Decoded}
-use Rattle.rz_isa.specs.declared.decoding.Decoded.TheVariants as decodeds
-use Rattle.rz_isa.specs.declared.instruction.Insn.{Insn}
 use Rattle.rz_isa.specs.Decoded.{decoded}
-use Rattle.rz_isa.specs.Insn.{kind_of}
-use Rattle.rz_isa.specs.Nodes.{Decoder, Code, is_site, is_site_at, spelled_at}
-use Rattle.rz_machine.specs.declared.way.Transfer.{Transfer}
-use Rattle.rz_machine.specs.declared.way.Way.{Way}
-use Rattle.rz_machine.specs.declared.way.Way.TheVariants.{Onward, Jumps, Branches, BranchesOnRcx, Transfers, Calls, Halts}
-use Rattle.rz_machine.specs.Way.{way_of}
-use Rattle.rz_machine.specs.Kept.{Kept, Edges, has_node, has_edge, sorted, sorted_edges}
+use Rattle.rz_isa.specs.Nodes.{Decoder, Code, spelled_at}
+use Rattle.rz_machine.specs.Kept.{Kept, has_node, sorted}
 use Rattle.rz_machine.specs.Nodes.{code_in}
-use Rattle.rz_machine.specs.Added.{sites, site_edges, site_count, site_edge_count}
-use Rattle.rz_machine.proofs.SetLaws.{has_node-sorted, has_edge-with_edges}
-use Rattle.rz_machine.proofs.WayLaws.{kind_in, kind_by_way}
+use Rattle.rz_machine.proofs.SetLaws.{has_node-sorted}
 use Rattle.rz_elf.specs.Elf.{Image}
 use Rattle.rz_elf.specs.PlainImage.{IsPlainImage}
-use Rattle.rz_rewrite.specs.Rewritten.{CanRewrite, HasNoTransfers, IsFit}
+use Rattle.rz_rewrite.specs.Rewritten.{CanRewrite, IsFit}
 use Rattle.rz_rewrite.specs.Reach.{is_out_of_reach, first_out_of_reach}
 use Rattle.rz_rewrite.specs.Spellable.{IsDecodedSpellable}
 use Rattle.rz_rewrite.specs.Calls.Table.{TableFacts}

@@ -11,7 +11,7 @@ use Rattle.rz_elf.specs.WrittenFile.{Parts, new_image}
 use Rattle.rz_elf.specs.Laws.PlainAccepted.{accepted_plain}
 use Rattle.rz_isa.specs.declared.rows.Row.{Row}
 use Rattle.rz_isa.specs.Decoded.{decoded}
-use Rattle.rz_isa.specs.Nodes.{Decoder, Code}
+use Rattle.rz_isa.specs.Nodes.{Decoder}
 use Rattle.rz_rewrite.specs.Calls.Table.{TableFacts}
 use Rattle.rz_machine.specs.Kept.{Kept, Edges, sorted}
 use Rattle.rz_machine.specs.Nodes.{code_in}
@@ -25,7 +25,7 @@ use Rattle.rz_rewrite.specs.Laws.Sites.{no_sites, no_site_edges}
 use Rattle.rz_rewrite.specs.Places.{range_of}
 use Rattle.rz_rewrite.specs.Reach.{first_out_of_reach}
 use Rattle.rz_rewrite.specs.Refusals.{rip_reach_of, no_room_for, size_for}
-use Rattle.rz_rewrite.specs.Rewritten.{CanRewrite, HasNoTransfers, IsInReach, IsFit, HasPlacement, HasRoom, IsRewritten, place_of}
+use Rattle.rz_rewrite.specs.Rewritten.{CanRewrite, HasNoTransfers, IsInReach, IsFit, HasPlacement, IsRewritten, place_of}
 use Rattle.rz_rewrite.proofs.ByteLists.{each_byte}
 use Rattle.rz_rewrite.proofs.PartsFit.{has_room}
 use Rattle.rz_rewrite.proofs.KeepsWritten.{placed_written, keeps_written}

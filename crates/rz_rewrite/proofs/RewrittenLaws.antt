@@ -1,6 +1,5 @@
 -- The places in a rewritten file: fragments lie in the code part, stubs behind it, all at low addresses.
 use Rattle.std.proofs.Common.{◌≡◌, ℕ, ◌+◌, ◌-◌, ◌*◌, ◌^◌, ◌<◌, ◌≤◌, true, List, length, ap, ◌∙◌, arith}
-use Rattle.rz_rewrite.specs.declared.items.Fragment.{Fragment}
 use Rattle.rz_rewrite.specs.declared.items.Label.{Label}
 use Rattle.rz_rewrite.specs.declared.items.Label.TheVariants as label
 use Rattle.rz_isa.specs.declared.rows.Row.{Row}

@@ -1,5 +1,5 @@
 -- The items of all fragments of a file have spellings at their places.
-use Rattle.std.proofs.Common.{ℕ, ◌*◌, ◌≤◌, List, length, arith}
+use Rattle.std.proofs.Common.{◌*◌, ◌≤◌, List, length, arith}
 use Rattle.rz_isa.specs.declared.rows.Row.{Row}
 use Rattle.rz_isa.specs.Decoded.{decoded}
 use Rattle.rz_elf.specs.Elf.{Image}

@@ -1,5 +1,5 @@
 -- A fragment's items: spelled at their places, without a last jump to what follows, they do what the instruction needs.
-use Rattle.std.proofs.Common.{◌≡◌, ℕ, zero, suc, ◌+◌, ◌^◌, ◌<◌, ◌≤◌, Bool, true, false, if◌then◌else◌, List, [], ◌∷◌, ◌++◌, length, take, Option, Some, None, refl, sym, ap, ◌∙◌, subst, arith, eqb-true}
+use Rattle.std.proofs.Common.{◌≡◌, ℕ, zero, suc, ◌+◌, ◌^◌, ◌<◌, ◌≤◌, Bool, true, false, if◌then◌else◌, List, [], ◌∷◌, ◌++◌, take, Option, Some, None, refl, sym, ap, ◌∙◌, subst, arith, eqb-true}
 use Rattle.rz_isa.specs.declared.rows.Row.{Row}
 use Rattle.rz_isa.specs.declared.rows.Form.TheVariants.{Near}
 use Rattle.rz_isa.specs.declared.instruction.Insn.{Insn}
@@ -22,7 +22,7 @@ use Rattle.rz_machine.specs.declared.way.Transfer.{Transfer}
 use Rattle.rz_machine.proofs.WayLaws.{target_in, target_by_way, system_call}
 use Rattle.rz_isa.specs.Insn.{target_of}
 use Rattle.rz_isa.specs.Nodes.{Decoder}
-use Rattle.rz_rewrite.specs.Fragments.{to_label, jump_to, items_by, items_of, is_following, is_needless, trimmed, item_len, items_len, item_place, address_within, resolved}
+use Rattle.rz_rewrite.specs.Fragments.{to_label, jump_to, items_by, items_of, is_following, is_needless, trimmed, item_len, items_len, item_place, address_within}
 use Rattle.rz_rewrite.specs.Spellable.{HasSpelling, IsSpelled, AllSpelled, AreLow}
 use Rattle.rz_rewrite.specs.Calls.Table.{TableFacts}
 use Rattle.rz_rewrite.proofs.SpelledItems.{ItemsAt}

@@ -14,9 +14,9 @@ ghost use Rattle.rz_rewrite.specs.Spellable.{IsDecodedSpellable, IsFragmentSpell
 
 use crate::items::{Fragment, Item, Items, Label};
 use crate::law::table_facts;
+use rz_decode::decode;
 use rz_elf::code::code_at;
 use rz_elf::elf::Elf;
-use rz_decode::decode;
 use rz_isa::{Decoded, Insn, InsnTable, Operand, Place, Reg, rip_target};
 use rz_machine::trace::EdgeSet;
 use rz_machine::way::{Way, find_way};
@@ -174,14 +174,17 @@ fn sequence(
             going_on(alloc, &[branch], label(edges, at, next), following)
         }
         Way::BranchesOnRcx { target } => {
-            let branch = Item::Jrcxz {
-                to: Label::Item(2),
-            };
+            let branch = Item::Jrcxz { to: Label::Item(2) };
             let onward = Item::Jump {
                 cond: None,
                 to: label(edges, at, next),
             };
-            going_on(alloc, &[branch, onward], label(edges, at, target), following)
+            going_on(
+                alloc,
+                &[branch, onward],
+                label(edges, at, target),
+                following,
+            )
         }
         Way::Transfers { .. } => Items::from_slice(alloc, &[Item::Whole(Insn::Ud2)]),
         Way::Calls => {

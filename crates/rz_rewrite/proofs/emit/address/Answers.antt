@@ -1,4 +1,4 @@
-use Rattle.std.proofs.Common.{◌+◌, ◌<◌, ◌≤◌, arith}
+use Rattle.std.proofs.Common.{arith}
 use Rattle.rz_rewrite.proofs.Trimmed.{length-take}
 use Rattle.rz_rewrite.proofs.emit.address.Goals as goal
 

@@ -1,4 +1,4 @@
-use Rattle.std.proofs.Common.{◌∙◌, ap, sym, subst, ◌≡◌, ◌+◌, ◌++◌, drop}
+use Rattle.std.proofs.Common.{◌∙◌, ap, ◌≡◌, ◌+◌, ◌++◌, drop}
 use Rattle.rz_rewrite.specs.Fragments.{items_bytes, items_len, total_len, fragments_bytes}
 use Rattle.rz_rewrite.specs.Places.{address_in}
 use Rattle.rz_rewrite.proofs.EmitSteps.{chosen_here, spelled_here, rest_here, bytes_here}

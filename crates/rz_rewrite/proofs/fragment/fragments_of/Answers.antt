@@ -1,4 +1,4 @@
-use Rattle.std.proofs.Common.{◌≡◌, get_or, take_all, subst, sym, ap, ◌∙◌}
+use Rattle.std.proofs.Common.{◌≡◌, get_or, take_all, subst, ap, ◌∙◌}
 use Rattle.std.specs.List.{All}
 use Rattle.std.proofs.lemmas.List.Elements.{All-more, All-same, All-from_recursion, recursion_from_All}
 use Rattle.rz_isa.specs.Decoded.{decoded}

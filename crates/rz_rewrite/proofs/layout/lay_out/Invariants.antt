@@ -1,5 +1,4 @@
 use Rattle.std.proofs.Common.{◌≡◌, ◌+◌, ◌++◌, drop}
-use Rattle.std.specs.List.{All}
 use Rattle.rz_rewrite.specs.Fragments.{total_len}
 use Rattle.rz_rewrite.specs.Places.{nodes_of, places_from}
 use Rattle.rz_rewrite.proofs.layout.lay_out.Given as goal

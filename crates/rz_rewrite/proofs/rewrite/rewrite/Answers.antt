@@ -39,10 +39,11 @@ returns-in-Some-clause-refused g c =
     first_reach (decoded g.T.InsnTable.rows) c.args.elf.now.bytes (kept_in c.args.kept.now) c.as_slice-nodes.result.now (c.as_slice-nodes.ensures.value ∙ c.in_ok-words.ensures.same) c.in_ok-words.ensures.order c.first_out_of_reach.result c.first_out_of_reach.ensures ∙ c.in-Some.is
 
 pub returns-clause-refused : goal.returns-clause-refused
-returns-clause-refused g c =
-    (first_reach (decoded g.T.InsnTable.rows) c.args.elf.now.bytes (kept_in c.args.kept.now) c.as_slice-nodes.result.now (c.as_slice-nodes.ensures.value ∙ c.in_ok-words.ensures.same) c.in_ok-words.ensures.order c.first_out_of_reach.result c.first_out_of_reach.ensures ∙ c.in_default.is,
-    sym (room_is (decoded g.T.InsnTable.rows) c.args.elf.now.bytes (kept_in c.args.kept.now) c.requires.plausible c.requires.transfers c.as_slice-nodes.result.now (c.as_slice-nodes.ensures.value ∙ c.in_ok-words.ensures.same) c.in_ok-words.ensures.order)
-    ∙ c.in-Err.ensures.refused)
+returns-clause-refused g c = (
+  first_reach (decoded g.T.InsnTable.rows) c.args.elf.now.bytes (kept_in c.args.kept.now) c.as_slice-nodes.result.now (c.as_slice-nodes.ensures.value ∙ c.in_ok-words.ensures.same) c.in_ok-words.ensures.order c.first_out_of_reach.result c.first_out_of_reach.ensures ∙ c.in_default.is,
+  sym (room_is (decoded g.T.InsnTable.rows) c.args.elf.now.bytes (kept_in c.args.kept.now) c.requires.plausible c.requires.transfers c.as_slice-nodes.result.now (c.as_slice-nodes.ensures.value ∙ c.in_ok-words.ensures.same) c.in_ok-words.ensures.order)
+      ∙ c.in-Err.ensures.refused,
+)
 
 pub returns-in-Ok-clause-reach : goal.returns-in-Ok-clause-reach
 returns-in-Ok-clause-reach g c =

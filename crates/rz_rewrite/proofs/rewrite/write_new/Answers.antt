@@ -1,13 +1,13 @@
-use Rattle.std.proofs.Common.{◌<◌, sym, subst}
+use Rattle.std.proofs.Common.{◌<◌, subst}
 use Rattle.std.specs.List.{AllByRecursion}
 use Rattle.rz_isa.specs.Decoded.{decoded}
-use Rattle.rz_elf.specs.Elf.{Image, image_of}
+use Rattle.rz_elf.specs.Elf.{image_of}
 use Rattle.rz_elf.specs.PlainImage.{IsPlainImage}
 use Rattle.rz_elf.specs.Laws.PlainAccepted.{accepted_plain}
 use Rattle.rz_rewrite.specs.Calls.Plan.{kept_set}
 use Rattle.rz_rewrite.proofs.ByteLists.{each_byte}
 use Rattle.rz_rewrite.proofs.NodeCount.{nodes_some}
-use Rattle.rz_rewrite.proofs.PartsFit.{has_room, are_pages, end_at_floor, entry_in_code, has_room_for_parts, inert_of}
+use Rattle.rz_rewrite.proofs.PartsFit.{are_pages, end_at_floor, entry_in_code, has_room_for_parts, inert_of}
 use Rattle.rz_rewrite.proofs.RewriteLaws.{fit_of, placed_file, kept_file}
 use Rattle.rz_rewrite.proofs.rewrite.write_new.Goals as goal
 

@@ -1,4 +1,4 @@
-use Rattle.std.proofs.Common.{◌≡◌, take, sym, ◌∙◌, ap}
+use Rattle.std.proofs.Common.{take, sym, ◌∙◌, ap}
 use Rattle.rz_isa.specs.Decoded.{decoded}
 use Rattle.rz_exec.specs.Laws.Named.{decoded_named}
 use Rattle.rz_machine.proofs.InsnSteps.{step_insn, on_ok_equal}
