@@ -1,10 +1,11 @@
 //! What runs used: the addresses of the instructions that they began, and the pairs of neighbours.
 
-ghost use Rattle.std.specs.Prelude.{◌≡◌, ◌⊎◌, ◌≤◌, ℕ, List, [], not, length, None, OnOk, OnErr, IfOk, IfErr};
+ghost use Rattle.std.specs.Prelude.{◌≡◌, ◌≤◌, ℕ, List, [], not, length, None, OnOk, OnErr, IfOk, IfErr};
 ghost use Rattle.std.specs.Ordering.{nat_cmp};
 ghost use Rattle.std.specs.BTreeSet.{insert_key};
 ghost use Rattle.std.specs.List.Sorted.{IsStrictlySortedBy};
 ghost use Rattle.rz_isa.specs.Decoded.{decoded};
+ghost use Rattle.rz_machine.specs.Calls.Sets.{IsSameOrWith};
 ghost use Rattle.rz_machine.specs.LeftCode.{left_at, StaysInCode};
 ghost use Rattle.rz_machine.specs.Traced.{with_run, kept_in, IsRefused};
 ghost use Rattle.rz_machine.specs.Recorded.{IsUncut, StaysPlausible};
@@ -163,7 +164,7 @@ impl Record {
     fn add(&mut self, last: Option<u64>, at: u64) -> Result<(), OutOfMemory>
         ensures ok { OnOk result (kept_in self.new ≡ with_begun (kept_in self.old) last at) }
         ensures edges { OnErr result (self.new.edges ≡ self.old.edges) }
-        ensures nodes { OnErr result ((self.new.nodes ≡ self.old.nodes) ⊎ (self.new.nodes ≡ insert_key nat_cmp self.old.nodes at)) }
+        ensures nodes { OnErr result (IsSameOrWith at self.old.nodes self.new.nodes) }
     {
         self.nodes.insert(at)?;
         if let Some(from) = last {

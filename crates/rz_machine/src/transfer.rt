@@ -3,9 +3,8 @@
 ghost use Rattle.std.specs.Prelude.{◌≡◌, IsTrue};
 ghost use Rattle.rz_exec.specs.Effect.{is_named_place};
 ghost use Rattle.rz_exec.specs.Fault.{completion};
-ghost use Rattle.rz_exec.specs.Form.{carry};
-ghost use Rattle.rz_machine.specs.Action.{is_named_transfer, transfer_effect, rip_after};
-ghost use Rattle.rz_machine.specs.Calls.Transfers.{fault_in};
+ghost use Rattle.rz_machine.specs.Action.{is_named_transfer, rip_after};
+ghost use Rattle.rz_machine.specs.Calls.Transfers.{carried, fault_in};
 ghost use Rattle.rz_machine.specs.declared.way.Transfer.TheVariants as transfers;
 
 use crate::way::Transfer;
@@ -24,7 +23,7 @@ const RSP: u8 = 4;
 #[tactic(auto, unfolding(rz_exec::specs::Form::carry))]
 fn call(target: u64, next: u64, cpu: &mut Cpu, mem: &mut Memory) -> Result<(), Fault>
     ensures done { completion cpu.new mem.new (fault_in result)
-        ≡ carry (transfer_effect (transfers.Call target) next cpu.old.regs cpu.old.flags) cpu.old.regs cpu.old.flags mem.old }
+        ≡ carried (transfers.Call target) next cpu.old mem.old }
     ensures rip { cpu.new.rip ≡ rip_after (fault_in result) (transfers.Call target) next cpu.old mem.old }
 {
     let top = cpu.regs[4].wrapping_sub(8);
@@ -39,7 +38,7 @@ fn call(target: u64, next: u64, cpu: &mut Cpu, mem: &mut Memory) -> Result<(), F
 fn call_operand(src: Place, next: u64, cpu: &mut Cpu, mem: &mut Memory) -> Result<(), Fault>
     requires { IsTrue (is_named_place src) }
     ensures done { completion cpu.new mem.new (fault_in result)
-        ≡ carry (transfer_effect (transfers.CallInd src) next cpu.old.regs cpu.old.flags) cpu.old.regs cpu.old.flags mem.old }
+        ≡ carried (transfers.CallInd src) next cpu.old mem.old }
     ensures rip { cpu.new.rip ≡ rip_after (fault_in result) (transfers.CallInd src) next cpu.old mem.old }
 {
     let word = read(mem, Width::W64, address_of(&cpu.regs, src))?;
@@ -56,7 +55,7 @@ fn call_operand(src: Place, next: u64, cpu: &mut Cpu, mem: &mut Memory) -> Resul
 fn jump_operand(src: Place, next: u64, cpu: &mut Cpu, mem: &Memory) -> Result<(), Fault>
     requires { IsTrue (is_named_place src) }
     ensures done { completion cpu.new mem.now (fault_in result)
-        ≡ carry (transfer_effect (transfers.JmpInd src) next cpu.old.regs cpu.old.flags) cpu.old.regs cpu.old.flags mem.now }
+        ≡ carried (transfers.JmpInd src) next cpu.old mem.now }
     ensures rip { cpu.new.rip ≡ rip_after (fault_in result) (transfers.JmpInd src) next cpu.old mem.now }
 {
     let _ = next;
@@ -69,7 +68,7 @@ fn jump_operand(src: Place, next: u64, cpu: &mut Cpu, mem: &Memory) -> Result<()
 #[tactic(auto, unfolding(rz_exec::specs::Form::carry))]
 fn return_from(pop: u16, next: u64, cpu: &mut Cpu, mem: &Memory) -> Result<(), Fault>
     ensures done { completion cpu.new mem.now (fault_in result)
-        ≡ carry (transfer_effect (transfers.Ret pop) next cpu.old.regs cpu.old.flags) cpu.old.regs cpu.old.flags mem.now }
+        ≡ carried (transfers.Ret pop) next cpu.old mem.now }
     ensures rip { cpu.new.rip ≡ rip_after (fault_in result) (transfers.Ret pop) next cpu.old mem.now }
 {
     let _ = next;
@@ -86,7 +85,7 @@ fn return_from(pop: u16, next: u64, cpu: &mut Cpu, mem: &Memory) -> Result<(), F
 pub(crate) fn transfer(how: Transfer, next: u64, cpu: &mut Cpu, mem: &mut Memory) -> Option<Fault>
     requires { IsTrue (is_named_transfer how) }
     ensures done { completion cpu.new mem.new result
-        ≡ carry (transfer_effect how next cpu.old.regs cpu.old.flags) cpu.old.regs cpu.old.flags mem.old }
+        ≡ carried how next cpu.old mem.old }
     ensures rip { cpu.new.rip ≡ rip_after result how next cpu.old mem.old }
 {
     match how {
