@@ -14,7 +14,6 @@ else
     echo "razor built without a proof (the command rt run, in crates/razor, proves it and leaves it in out):"
     rt try -- "${words[@]}" 2> "$work/log" || { cat "$work/log" >&2; exit 1; }
 fi
-chmod +x "$work/e" "$work/w"
 echo "the original, $work/e:"
 "$work/e"
 echo "the new file, $work/w:"

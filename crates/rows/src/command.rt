@@ -21,8 +21,12 @@ pub enum Given<'a> {
     Thin(&'a str, Bytes),
     /// A further line of the last file.
     Line(&'a str),
+    /// A file of so many zero bytes.
+    Zeros(&'a str, usize),
     /// Other bytes from a place of a file on.
     Put(&'a str, usize, Bytes),
+    /// The same bytes so many times from a place of a file on.
+    Repeat(&'a str, usize, u64, Bytes),
     /// The length to which a file is cut.
     Cut(&'a str, usize),
     /// The calls with these numbers fail.
@@ -120,6 +124,16 @@ fn read_file<'a>(alloc: Global, verb: &str, mut words: Words<'a>) -> Result<Give
         "put" => {
             let at = words.size()?;
             Ok(Given::Put(name, at, words.bytes(alloc)?))
+        }
+        "repeat" => {
+            let at = words.size()?;
+            let count = words.number()?;
+            Ok(Given::Repeat(name, at, count, words.bytes(alloc)?))
+        }
+        "zeros" => {
+            let len = words.size()?;
+            words.end()?;
+            Ok(Given::Zeros(name, len))
         }
         "cut" => {
             let len = words.size()?;

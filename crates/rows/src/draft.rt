@@ -3,7 +3,7 @@
 use crate::command::{Given, Side};
 use crate::fault::Fault;
 use crate::thin::thin;
-use rz_num::{Bytes, Text};
+use rz_num::{Bytes, OutOfMemory, Text};
 use std::alloc::Global;
 
 /// What a case begins with.
@@ -39,7 +39,12 @@ impl Draft {
             Given::File(name, bytes) => self.add(alloc, name, bytes),
             Given::Thin(name, code) => self.add(alloc, name, thin(alloc, code.as_slice())?),
             Given::Line(line) => self.add_line(line),
+            Given::Zeros(name, len) => self.add(alloc, name, zeros(alloc, len)?),
             Given::Put(name, at, bytes) => self.put(name, at, bytes.as_slice()),
+            Given::Repeat(name, at, count, bytes) => {
+                let all = repeated(alloc, bytes.as_slice(), count)?;
+                self.put(name, at, all.as_slice())
+            }
             Given::Cut(name, len) => self.cut(alloc, name, len),
             Given::Failing(side, calls) => {
                 self.set_failing(side, Some(calls));
@@ -107,4 +112,18 @@ impl Draft {
             Side::Sink => self.sink = calls,
         }
     }
+}
+
+// So many zero bytes.
+fn zeros(alloc: Global, len: usize) -> Result<Bytes, OutOfMemory> {
+    Ok(Bytes::from_vec(vec![in alloc; 0; len]?))
+}
+
+// The same bytes so many times.
+fn repeated(alloc: Global, bytes: &[u8], count: u64) -> Result<Bytes, OutOfMemory> {
+    let mut all = Bytes::new(alloc);
+    for _ in 0..count {
+        all.push_all(bytes)?;
+    }
+    Ok(all)
 }

@@ -1,11 +1,22 @@
-//! Values and flags that the Intel SDM determines: the conditions after CMP, and rows of edge operands at each width.
+//! The conditions after CMP, and rows of edge operands at each width. The values and flags of the rows were worked out
+//! bit by bit from the operation sections of the Intel SDM, volume 2 (carries from bit to bit, shifts by one place at a
+//! time, restoring division), apart from this code; an x86-64 processor gave the same wherever the SDM defines them. The
+//! flags that it leaves open are razor's own.
 
-mod rows;
+mod arithmetic_rows;
+mod bit_rows;
+mod double_shift_rows;
+mod product_rows;
+mod shift_rows;
 
 use crate::{arith, bit_test, div, double_shift, mul, scan, shift, unary};
-use rows::{ARITHS, BITS, DIVISIONS, DOUBLE_SHIFTS, PRODUCTS, SCANS, SHIFTS, UNARIES};
+use arithmetic_rows::{ARITHS, CARRY_ARITHS, UNARIES};
+use bit_rows::{BITS, SCANS};
+use double_shift_rows::DOUBLE_SHIFTS;
+use product_rows::{DIVISIONS, PRODUCTS};
 use rz_flags::{ArithOp, Cond, Flags, ScanOp, ShiftOp, UnaryOp, holds, to_word};
-use rz_num::Width;
+use rz_num::Width::{self, W8, W16, W32, W64};
+use shift_rows::SHIFTS;
 
 const CF: u64 = 1;
 
@@ -77,11 +88,24 @@ fn conditions_after_cmp(rt: HostRuntime) {
 fn two_operands(rt: HostRuntime) {
     for (op, w, a, b, value, set) in ARITHS.iter().copied() {
         for before in [CLEAR, SET] {
-            if before.cf || !matches!(op, ArithOp::Adc | ArithOp::Sbb) {
-                let (result, flags) = arith(op, w, a, b, before);
-                assert_eq!(rt; result, value);
-                assert!(rt; are_written(flags, before, STATUS, set));
-            }
+            let (result, flags) = arith(op, w, a, b, before);
+            assert_eq!(rt; result, value);
+            assert!(rt; are_written(flags, before, STATUS, set));
+        }
+    }
+}
+
+#[test]
+fn two_operands_and_a_carry(rt: HostRuntime) {
+    for (op, w, a, b, carry, value, set) in CARRY_ARITHS.iter().copied() {
+        for others in [CLEAR, SET] {
+            let before = Flags {
+                cf: carry,
+                ..others
+            };
+            let (result, flags) = arith(op, w, a, b, before);
+            assert_eq!(rt; result, value);
+            assert!(rt; are_written(flags, before, STATUS, set));
         }
     }
 }
@@ -120,16 +144,42 @@ fn shifts_and_rotates(rt: HostRuntime) {
 #[test]
 fn counts_that_leave_all(rt: HostRuntime) {
     use ShiftOp::{Rol, Ror, Sar, Shl, Shr};
-    for (w, count) in [
-        (Width::W8, 0),
-        (Width::W8, 32),
-        (Width::W16, 64),
-        (Width::W32, 32),
-        (Width::W64, 64),
+    for (w, count, top) in [
+        (W8, 0, 0x80),
+        (W8, 32, 0x80),
+        (W16, 0, 0x8000),
+        (W16, 64, 0x8000),
+        (W32, 0, 0x8000_0000),
+        (W32, 32, 0x8000_0000),
+        (W64, 0, 1 << 63),
+        (W64, 64, 1 << 63),
     ] {
-        for op in [Rol, Ror, Shl, Shr, Sar] {
+        for a in [0, 1, top, w.greatest()] {
             for before in [CLEAR, SET] {
-                assert!(rt; shift(op, w, 0x81, count, before) == (0x81, before));
+                for op in [Rol, Ror, Shl, Shr, Sar] {
+                    assert!(rt; shift(op, w, a, count, before) == (a, before));
+                }
+            }
+        }
+    }
+}
+
+#[test]
+fn counts_that_leave_a_pair(rt: HostRuntime) {
+    for (w, count, top) in [
+        (W8, 0, 0x80),
+        (W8, 8, 0x80),
+        (W16, 0, 0x8000),
+        (W16, 16, 0x8000),
+        (W32, 0, 0x8000_0000),
+        (W32, 32, 0x8000_0000),
+        (W64, 0, 1 << 63),
+        (W64, 64, 1 << 63),
+    ] {
+        for a in [0, 1, top, w.greatest()] {
+            for before in [CLEAR, SET] {
+                assert!(rt; double_shift(true, w, a, !a, count, before) == (a, before));
+                assert!(rt; double_shift(false, w, a, !a, count, before) == (a, before));
             }
         }
     }

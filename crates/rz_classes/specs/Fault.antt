@@ -18,9 +18,13 @@ abbrev pub fault_behind : List Function → ℕ → Option Function → Option C
 fault_behind others n None = Some (BadLine n)
 fault_behind others n (Some f) = if list_any (meets f) others then Some (Overlap n) else None
 
+-- the fault of line n of this text behind other functions
+abbrev pub line_fault : List Function → ℕ → List ℕ → Option ClassError
+line_fault others n text = fault_behind others n (function_of (words text))
+
 -- the fault of a line behind earlier ones
 abbrev pub fault_of_line : List Line → Line → Option ClassError
-fault_of_line earlier line = fault_behind (functions earlier) line.0 (function_of (words line.1))
+fault_of_line earlier line = line_fault (functions earlier) line.0 line.1
 
 -- the first fault of a text
 abbrev pub fault_of : List ℕ → Option ClassError

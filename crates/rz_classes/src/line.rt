@@ -1,8 +1,9 @@
 // A line of a class file.
 
-ghost use Rattle.std.specs.Prelude.{◌≡◌, ◌≢◌, ◌<◌, [], ◌∷◌, length, MatchOption, IfSome, Some, None, Ok};
+ghost use Rattle.std.specs.Prelude.{◌≡◌, ◌≢◌, ◌<◌, [], ◌∷◌, length, IfSome, IfNone, Ok};
 ghost use Rattle.std.specs.List.{list_all};
 ghost use Rattle.rz_text.specs.Lines.{words};
+ghost use Rattle.rz_classes.specs.Calls.Entry.{listed};
 ghost use Rattle.rz_classes.specs.Grammar.{is_class, is_visible, function_from, function_of, function_of_words};
 
 use rz_text::{hexadecimal, word};
@@ -21,7 +22,7 @@ pub struct Entry<'a> {
 /// What a line lists, where it is in the grammar `fn LO HI CLASS`.
 pub fn entry_of(line: &[u8]) -> Option<Entry<'_>>
     ensures ordered { IfSome result (λ e. e.lo < e.hi) }
-    ensures value { MatchOption result (function_of (words line.now) ≡ None) (λ e. function_of (words line.now) ≡ Some (record { lo = e.lo; hi = e.hi; class = e.class.now })) }
+    ensures value { listed result ≡ function_of (words line.now) }
 {
     match four_words(line) {
         Some((key, lo, hi, class)) => entry_of_words(key, lo, hi, class),
@@ -32,7 +33,7 @@ pub fn entry_of(line: &[u8]) -> Option<Entry<'_>>
 // What four words list.
 fn entry_of_words<'a>(key: &[u8], lo: &[u8], hi: &[u8], class: &'a [u8]) -> Option<Entry<'a>>
     ensures ordered { IfSome result (λ e. e.lo < e.hi) }
-    ensures value { MatchOption result (function_of_words key.now lo.now hi.now class.now ≡ None) (λ e. function_of_words key.now lo.now hi.now class.now ≡ Some (record { lo = e.lo; hi = e.hi; class = e.class.now })) }
+    ensures value { listed result ≡ function_of_words key.now lo.now hi.now class.now }
 {
     if key != b"fn".as_slice() {
         return None;
@@ -45,7 +46,8 @@ fn entry_of_words<'a>(key: &[u8], lo: &[u8], hi: &[u8], class: &'a [u8]) -> Opti
 
 // The words of a line, where it has four.
 fn four_words(line: &[u8]) -> Option<(&[u8], &[u8], &[u8], &[u8])>
-    ensures { MatchOption result (length (words line.now) ≢ 4) (λ w. words line.now ≡ w.0.now ∷ w.1.now ∷ w.2.now ∷ w.3.now ∷ []) }
+    ensures four { IfSome result (λ w. words line.now ≡ w.0.now ∷ w.1.now ∷ w.2.now ∷ w.3.now ∷ []) }
+    ensures other { IfNone result (length (words line.now) ≢ 4) }
 {
     if word(line, 4).is_some() {
         return None;
@@ -61,7 +63,7 @@ fn four_words(line: &[u8]) -> Option<(&[u8], &[u8], &[u8], &[u8])>
 // What two numbers and a class list: the range isn't empty, and the word names a class.
 fn entry_from(lo: u64, hi: u64, class: &[u8]) -> Option<Entry<'_>>
     ensures ordered { IfSome result (λ e. e.lo < e.hi) }
-    ensures value { MatchOption result (function_from (Ok lo) (Ok hi) class.now ≡ None) (λ e. function_from (Ok lo) (Ok hi) class.now ≡ Some (record { lo = e.lo; hi = e.hi; class = e.class.now })) }
+    ensures value { listed result ≡ function_from (Ok lo) (Ok hi) class.now }
 {
     if lo < hi && is_class(class) {
         Some(Entry { lo, hi, class })

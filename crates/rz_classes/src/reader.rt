@@ -5,7 +5,7 @@ ghost use Rattle.std.specs.Option.{option_to_list};
 ghost use Rattle.rz_text.specs.Lines.{words};
 ghost use Rattle.rz_classes.specs.Grammar.{function_of};
 ghost use Rattle.rz_classes.specs.declared.error.ClassError.TheVariants as error;
-ghost use Rattle.rz_classes.specs.Fault.{fault_behind, fault_of, functions_of};
+ghost use Rattle.rz_classes.specs.Fault.{fault_of, functions_of, line_fault};
 
 use crate::error::ClassError;
 use crate::line::entry_of;
@@ -40,9 +40,9 @@ pub fn read_classes(alloc: Global, bytes: &Bytes) -> Result<Classes, ClassError>
 // Lists the function of line `n`.
 fn list_line(alloc: Global, classes: &mut Classes, n: u64, line: &[u8]) -> Result<(), ClassError>
     requires { length classes.old + 1 < 2 ^ 32 }
-    ensures sound { OnOk result (fault_behind classes.old n (function_of (words line.now)) ≡ None) }
+    ensures sound { OnOk result (line_fault classes.old n line.now ≡ None) }
     ensures listed { OnOk result (classes.new ≡ classes.old ++ option_to_list (function_of (words line.now))) }
-    ensures fault { IfErr result (λ e. e ≢ error.OutOfMemory → fault_behind classes.old n (function_of (words line.now)) ≡ Some e) }
+    ensures fault { IfErr result (λ e. e ≢ error.OutOfMemory → line_fault classes.old n line.now ≡ Some e) }
 {
     let Some(entry) = entry_of(line) else {
         return Err(ClassError::BadLine(n));

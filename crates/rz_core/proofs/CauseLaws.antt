@@ -95,6 +95,8 @@ later_refusal w s t st told same le now failed h =
 -- what was refused before the write
 last_make : (d : Debloat) (s : StoreCalls) (st : Status) → LastMakeRefusal d s st → LastRefusal (Debloating d) s st
 last_make d s (status.LeftCode n address) h = h
+last_make d s (status.RipReach address) h = h
+last_make d s (status.NoRoom room) h = h
 last_make d s status.OutOfMemory h = tt
 last_make d s _ h = absurd h
 

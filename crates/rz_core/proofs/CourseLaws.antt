@@ -7,7 +7,7 @@ use Rattle.rz_core.specs.declared.status.Status.TheVariants as status
 use Rattle.rz_core.specs.declared.status.Target.TheVariants as target
 use Rattle.rz_core.specs.Words.{Debloat, Form, Debloating, Checking}
 use Rattle.rz_core.specs.Inputs.{HoldInputs}
-use Rattle.rz_core.specs.Reading.{Demand, Thin, Accepted, InputNumber, Wanted, wanted_inputs, wanted_by, Refuses, ReadRefusal, FileRefusal, FileRead, Course}
+use Rattle.rz_core.specs.Reading.{Demand, Accepted, InputNumber, Wanted, wanted_inputs, wanted_by, Refuses, ReadRefusal, FileRefusal, FileRead, Course}
 use Rattle.rz_core.specs.Causes.{AreRead, IsDone, LastRefusal}
 
 pub course_map : (ws : List Wanted) (s : StoreCalls) (P Q : Status → Type 0) (st : Status) → (P st → Q st) → Course ws s P st → Course ws s Q st
@@ -34,7 +34,7 @@ inputs_read s k (name ∷ names) [] h = absurd h
 inputs_read s k (name ∷ names) (input ∷ inputs) h = ((h.0.0, h.0.1, (input, h.0.2)), inputs_read s (suc k) names inputs h.1)
 
 pub debloat_read : (d : Debloat) (s : StoreCalls) (x : List ℕ) (inputs : List Input) → AreRead d (Held s) x inputs → AllRead (wanted_by (Debloating d)) s
-debloat_read d s x inputs r = ((x, r.exe, r.thin), inputs_read s 1 d.inputs inputs r.inputs_are)
+debloat_read d s x inputs r = ((x, r.exe, r.accepted), inputs_read s 1 d.inputs inputs r.inputs_are)
 
 pub done_read : (form : Form) (s : StoreCalls) (text : List ℕ) → IsDone form s text → AllRead (wanted_by form) s
 done_read (Debloating d) s text done = debloat_read d s done.x done.inputs done.new.read
@@ -52,7 +52,6 @@ read_refused name s (status.WriteFault target.Text) h = absurd h
 read_refused name s _ h = tt
 
 unfit_refused : (d : Demand) (name x : List ℕ) (st : Status) → Refuses d name x st → IsRefused st
-unfit_refused Thin name x st h = let P : Status → Type 0 = λ a. IsRefused a in subst P (sym h.1) tt
 unfit_refused Accepted name x st h = let P : Status → Type 0 = λ a. IsRefused a in subst P (sym h.1) tt
 unfit_refused (InputNumber k) name x st h = let P : Status → Type 0 = λ a. IsRefused a in subst P (sym h.1) tt
 

@@ -5,21 +5,19 @@ use Rattle.rz_outside.specs.StoreAnswers.{Files}
 use Rattle.rz_outside.specs.StoreCalls.{StoreCalls, Held}
 use Rattle.rz_outside.specs.SinkCalls.{SinkCalls}
 use Rattle.rz_elf.specs.declared.fault.ElfFault.{ElfFault}
+use Rattle.rz_elf.specs.declared.room.Room.{Room}
 use Rattle.rz_elf.specs.Elf.{fault_of}
 use Rattle.rz_sys.specs.declared.input.Input.{Input}
-use Rattle.rz_machine.specs.First.{decode_first}
+use Rattle.rz_core.specs.Decoding.{decode_early}
 use Rattle.rz_machine.specs.LeftCode.{left_at}
 use Rattle.rz_machine.specs.State.{after}
-use Rattle.rz_rewrite.specs.Thin.{IsThin}
-use Rattle.rz_rewrite.specs.ThinFault.{IsThinFault}
-use Rattle.rz_rewrite.proofs.ThinLoads.{thin_fault}
 use Rattle.rz_core.specs.declared.status.Status.{Status}
 use Rattle.rz_core.specs.declared.status.Status.TheVariants as status
 use Rattle.rz_core.specs.declared.status.Target.TheVariants as target
 use Rattle.rz_core.specs.Words.{Debloat, Check, Form, Debloating, Checking}
 use Rattle.rz_core.specs.Inputs.{input_of, HoldInputs}
-use Rattle.rz_core.specs.Reading.{Demand, Thin, Accepted, InputNumber, Wanted, wanted_by, Meets, Refuses, ReadCause, ReadRefusal, Course}
-use Rattle.rz_core.specs.Debloated.{traced, AllStay, LeavesFirst}
+use Rattle.rz_core.specs.Reading.{Demand, Accepted, InputNumber, Wanted, wanted_by, Meets, Refuses, ReadCause, ReadRefusal, Course}
+use Rattle.rz_core.specs.Debloated.{traced, AllStay, LeavesFirst, rip_reach_of, no_room_of}
 use Rattle.rz_core.specs.Causes.{AreRead, LastAnswer, CauseOf}
 use Rattle.rz_core.specs.Exact.{IsQuiet, Gives, holds, IsAnswered, IsInOrder, EndsExactly, LastExact, IsExactOf}
 use Rattle.rz_core.specs.Headline.{HeadlineOf}
@@ -41,27 +39,14 @@ one_address o a b e f = let g : Some a ≡ Some b = sym e ∙ f in cc
 no_fault : (o : Option ElfFault) (f : ElfFault) → o ≡ Some f → o ≡ None → ⊥
 no_fault o f e n = let h : Some f ≡ None = sym e ∙ n in cc
 
+no_cause : (o : Option Room) (r : Room) → o ≡ Some r → o ≡ None → ⊥
+no_cause o r e n = let h : Some r ≡ None = sym e ∙ n in cc
+
+one_cause : (o : Option Room) (r q : Room) → o ≡ Some r → o ≡ Some q → r ≡ q
+one_cause o r q e h = let k : Some r ≡ Some q = sym e ∙ h in cc
+
 same_fault : (o : Option ElfFault) (f g : ElfFault) → o ≡ Some f → o ≡ Some g → f ≡ g
 same_fault o f g e h = let k : Some f ≡ Some g = sym e ∙ h in cc
-
--- a thin file has no fault
-not_thin : (x : List ℕ) (f : ElfFault) → IsThinFault x f → IsThin x → ⊥
-not_thin x f why thin = ⊎_elim (λ e. not_none (fault_of x) f e (thin_fault x thin)) (λ u. u.1.other thin) why
-  where
-    not_none : (o : Option ElfFault) (g : ElfFault) → o ≡ Some g → o ≡ None → ⊥
-    not_none o g e n = let h : Some g ≡ None = sym e ∙ n in cc
-
--- a file has one fault
-one_fault : (x : List ℕ) (f g : ElfFault) → IsThinFault x f → IsThinFault x g → f ≡ g
-one_fault x f g a b =
-    ⊎_elim (λ e. ⊎_elim (λ h. some_is (fault_of x) f g e h) (λ u. absurd (not_none (fault_of x) f e u.1.accepted)) b)
-    (λ t. ⊎_elim (λ h. absurd (not_none (fault_of x) g h t.1.accepted)) (λ u. t.0 ∙ sym u.0) b) a
-  where
-    not_none : (o : Option ElfFault) (g : ElfFault) → o ≡ Some g → o ≡ None → ⊥
-    not_none o g e n = let h : Some g ≡ None = sym e ∙ n in cc
-
-    some_is : (o : Option ElfFault) (f g : ElfFault) → o ≡ Some f → o ≡ Some g → f ≡ g
-    some_is o f g e h = let k : Some f ≡ Some g = sym e ∙ h in cc
 
 -- an input file holds one input, or breaks the grammar at one line
 input_or : Input → Result Input ℕ → Input
@@ -90,13 +75,11 @@ no_line r i line e f = let P : Result Input ℕ → Type 0 = λ v. HasInput v in
 
 -- what is demanded isn't refused
 fit_not_refused : (d : Demand) (name x : List ℕ) (st : Status) → Meets d x → Refuses d name x st → ⊥
-fit_not_refused Thin name x st m r = not_thin x r.0 r.2 m
 fit_not_refused Accepted name x st m r = no_fault (fault_of x) r.0 r.2 m
 fit_not_refused (InputNumber k) name x st m r = no_line (input_of x) m.0 r.0 m.1 r.2
 
 -- and a file is refused in one way
 one_refusal : (d : Demand) (name x : List ℕ) (st other : Status) → Refuses d name x st → Refuses d name x other → st ≡ other
-one_refusal Thin name x st other a b = a.1 ∙ (ap (λ f. status.Refused name f) (one_fault x a.0 b.0 a.2 b.2) ∙ sym b.1)
 one_refusal Accepted name x st other a b = a.1 ∙ (ap (λ f. status.Refused name f) (same_fault (fault_of x) a.0 b.0 a.2 b.2) ∙ sym b.1)
 one_refusal (InputNumber k) name x st other a b = a.1 ∙ (ap (λ l. status.BadInput k l) (one_line (input_of x) a.0 b.0 a.2 b.2) ∙ sym b.1)
 
@@ -166,7 +149,7 @@ inputs_again s (n ∷ ns) (i ∷ is) (j ∷ js) told a b =
 left_once : (limit : ℕ) (x : List ℕ) (k : ℕ) (inputs : List Input) (n a m b : ℕ) → LeavesFirst limit x k inputs n a → LeavesFirst limit x k inputs m b → status.LeftCode n a ≡ status.LeftCode m b
 left_once limit x k [] n a m b g h = absurd g
 left_once limit x k (i ∷ is) n a m b g h =
-    let o : Option ℕ = left_at (after decode_first limit (traced x i)).end in
+    let o : Option ℕ = left_at (after decode_early limit (traced x i)).end in
     ⊎_elim
     (λ p. ⊎_elim (λ q. ap₂ (λ c d. status.LeftCode c d) (p.0 ∙ sym q.0) (one_address o a b p.1 q.1)) (λ q. absurd (not_both o a p.1 q.0)) h)
     (λ p. ⊎_elim (λ q. absurd (not_both o b q.1 p.0)) (λ q. left_once limit x (suc k) is n a m b p.1 q.1) h) g
@@ -174,7 +157,7 @@ left_once limit x k (i ∷ is) n a m b g h =
 stay_not_left : (limit : ℕ) (x : List ℕ) (k : ℕ) (inputs : List Input) (n a : ℕ) → AllStay limit x inputs → LeavesFirst limit x k inputs n a → ⊥
 stay_not_left limit x k [] n a all h = h
 stay_not_left limit x k (i ∷ is) n a all h =
-    ⊎_elim (λ p. not_both (left_at (after decode_first limit (traced x i)).end) a p.1 all.0) (λ p. stay_not_left limit x (suc k) is n a all.1 p.1) h
+    ⊎_elim (λ p. not_both (left_at (after decode_early limit (traced x i)).end) a p.1 all.0) (λ p. stay_not_left limit x (suc k) is n a all.1 p.1) h
 
 -- what was read is what the files hold
 stay_again : (d : Debloat) (s : StoreCalls) (x y : List ℕ) (is js : List Input) → IsTrue s.told → AreRead d (Held s) x is → AreRead d (holds s.old) y js → AllStay d.limit x is → AllStay d.limit y js
@@ -187,20 +170,58 @@ left_again d s x y is js n a told g h left =
     subst (λ l. LeavesFirst d.limit y 1 l n a) (inputs_again s d.inputs is js told g.inputs_are h.inputs_are)
     (subst (λ z. LeavesFirst d.limit z 1 is n a) (one_content (s.old d.exe) x y (g.exe told) h.exe) left)
 
+room_again : (d : Debloat) (s : StoreCalls) (x y : List ℕ) (is js : List Input) (o : Option Room) → IsTrue s.told → AreRead d (Held s) x is → AreRead d (holds s.old) y js
+    → no_room_of d.limit x is ≡ o → no_room_of d.limit y js ≡ o
+room_again d s x y is js o told g h e =
+    subst (λ l. no_room_of d.limit y l ≡ o) (inputs_again s d.inputs is js told g.inputs_are h.inputs_are)
+    (subst (λ z. no_room_of d.limit z is ≡ o) (one_content (s.old d.exe) x y (g.exe told) h.exe) e)
+
+reach_again : (d : Debloat) (s : StoreCalls) (x y : List ℕ) (is js : List Input) (o : Option ℕ) → IsTrue s.told → AreRead d (Held s) x is → AreRead d (holds s.old) y js
+    → rip_reach_of d.limit x is ≡ o → rip_reach_of d.limit y js ≡ o
+reach_again d s x y is js o told g h e =
+    subst (λ l. rip_reach_of d.limit y l ≡ o) (inputs_again s d.inputs is js told g.inputs_are h.inputs_are)
+    (subst (λ z. rip_reach_of d.limit z is ≡ o) (one_content (s.old d.exe) x y (g.exe told) h.exe) e)
+
 ends_wanting : (d : Debloat) (files : Files) → EndsExactly d files status.OutOfMemory
-ends_wanting d files = record { left_code = λ x inputs n a read left. inr refl; complete = λ x inputs read all. inr refl }
+ends_wanting d files = record { left_code = λ x inputs n a read left. inr refl; rip_reach = λ x inputs a read all e. inr refl; no_room = λ x inputs room read all near e. inr refl; complete = λ x inputs read all near e. inr refl }
 
 ends_exactly : (d : Debloat) (s : StoreCalls) (k : SinkCalls) (answer : Status) → IsQuiet s k → LastAnswer (Debloating d) s k answer → EndsExactly d s.old answer
 ends_exactly d s k status.Ok q h =
     let done = h.1 in
+    let x = done.x in
+    let is = done.inputs in
+    let read = done.new.read in
+    let new = done.new.debloated in
     record {
-      left_code = λ y js n a read left. absurd (stay_not_left d.limit y 1 js n a (stay_again d s done.x y done.inputs js q.told done.new.read read done.new.debloated.stay) left);
-      complete = λ y js read all. inl refl;
+      left_code = λ y js n a again left. absurd (stay_not_left d.limit y 1 js n a (stay_again d s x y is js q.told read again new.stay) left);
+      rip_reach = λ y js a again all e. absurd (not_both (rip_reach_of d.limit y js) a e (reach_again d s x y is js None q.told read again new.reach));
+      no_room = λ y js room again all near e. absurd (no_cause (no_room_of d.limit y js) room e (room_again d s x y is js None q.told read again new.room));
+      complete = λ y js again all near e. inl refl;
     }
 ends_exactly d s k (status.LeftCode m b) q h =
+    let left_here : (y : List ℕ) (js : List Input) → AreRead d (holds s.old) y js → LeavesFirst d.limit y 1 js m b = λ y js again. left_again d s h.0 y h.1 js m b q.told h.2 again h.3 in
     record {
-      left_code = λ y js n a read left. inl (left_once d.limit y 1 js m b n a (left_again d s h.0 y h.1 js m b q.told h.2 read h.3) left);
-      complete = λ y js read all. absurd (stay_not_left d.limit y 1 js m b all (left_again d s h.0 y h.1 js m b q.told h.2 read h.3));
+      left_code = λ y js n a again left. inl (left_once d.limit y 1 js m b n a (left_here y js again) left);
+      rip_reach = λ y js a again all e. absurd (stay_not_left d.limit y 1 js m b all (left_here y js again));
+      no_room = λ y js room again all near e. absurd (stay_not_left d.limit y 1 js m b all (left_here y js again));
+      complete = λ y js again all near e. absurd (stay_not_left d.limit y 1 js m b all (left_here y js again));
+    }
+ends_exactly d s k (status.RipReach b) q h =
+    let far_here : (y : List ℕ) (js : List Input) → AreRead d (holds s.old) y js → rip_reach_of d.limit y js ≡ Some b = λ y js again. reach_again d s h.0 y h.1 js (Some b) q.told h.2 again h.4 in
+    record {
+      left_code = λ y js n a again left. absurd (stay_not_left d.limit y 1 js n a (stay_again d s h.0 y h.1 js q.told h.2 again h.3) left);
+      rip_reach = λ y js a again all e. inl (ap (λ c. status.RipReach c) (one_address (rip_reach_of d.limit y js) b a (far_here y js again) e));
+      no_room = λ y js room again all near e. absurd (not_both (rip_reach_of d.limit y js) b (far_here y js again) near);
+      complete = λ y js again all near e. absurd (not_both (rip_reach_of d.limit y js) b (far_here y js again) near);
+    }
+ends_exactly d s k (status.NoRoom r) q h =
+    let near_here : (y : List ℕ) (js : List Input) → AreRead d (holds s.old) y js → rip_reach_of d.limit y js ≡ None = λ y js again. reach_again d s h.0 y h.1 js None q.told h.2 again h.4 in
+    let none_here : (y : List ℕ) (js : List Input) → AreRead d (holds s.old) y js → no_room_of d.limit y js ≡ Some r = λ y js again. room_again d s h.0 y h.1 js (Some r) q.told h.2 again h.5 in
+    record {
+      left_code = λ y js n a again left. absurd (stay_not_left d.limit y 1 js n a (stay_again d s h.0 y h.1 js q.told h.2 again h.3) left);
+      rip_reach = λ y js a again all e. absurd (not_both (rip_reach_of d.limit y js) a e (near_here y js again));
+      no_room = λ y js room again all near e. inl (ap (λ c. status.NoRoom c) (one_cause (no_room_of d.limit y js) r room (none_here y js again) e));
+      complete = λ y js again all near e. absurd (no_cause (no_room_of d.limit y js) r (none_here y js again) e);
     }
 ends_exactly d s k (status.WriteFault target.Text) q h = absurd (q.sink h)
 ends_exactly d s k (status.WriteFault target.File) q h = absurd (q.store h.0)

@@ -1,94 +1,102 @@
--- What is asked of a thin file before it is rewritten, and what is made of it.
-use Rattle.std.proofs.Common.{◌≡◌, ℕ, suc, ◌<◌, List, [], ◌∷◌, length, sym, ap, ap₂, ◌∙◌, subst, None}
+-- What is asked of a file before it is rewritten, and what is made of it.
+use Rattle.std.proofs.Common.{◌≡◌, ℕ, suc, ◌<◌, ◌≤◌, List, [], ◌∷◌, length, Option, None, Some, refl, sym, ap, ap₂, ◌∙◌, subst}
 use Rattle.std.specs.Prelude.{slice_index}
 use Rattle.std.specs.List.{AllByRecursion}
-use Rattle.rz_elf.specs.declared.elf.Elf.{Elf}
 use Rattle.rz_machine.specs.declared.machine.Machine.{Machine}
 use Rattle.rz_sys.specs.declared.input.Input.{Input}
-use Rattle.rz_machine.specs.Kept.{Kept, sorted, sorted_edges}
+use Rattle.rz_machine.specs.Kept.{Kept}
 use Rattle.rz_image.specs.Memory.{NoSelfWritten}
-use Rattle.rz_elf.specs.Elf.{fault_of, image_of, Image}
-use Rattle.rz_machine.specs.First.{decode_first}
-use Rattle.rz_elf.specs.Loaded.{loaded}
-use Rattle.rz_rewrite.specs.ThinElf.{thin_elf}
-use Rattle.rz_rewrite.specs.Thin.{IsThin}
+use Rattle.rz_elf.specs.declared.room.Room.{Room}
+use Rattle.rz_elf.specs.Elf.{image_of, Image}
+use Rattle.rz_core.specs.Decoding.{decode_early}
+use Rattle.rz_elf.specs.Loaded.{ElfFile, IsRead, loaded}
 use Rattle.rz_machine.specs.Start.{start}
 use Rattle.rz_machine.specs.LeftCode.{StaysInCode}
-use Rattle.rz_machine.specs.Recorded.{IsUncut}
-use Rattle.rz_machine.specs.Nodes.{Code, code_in, StandsIn}
+use Rattle.rz_machine.specs.Recorded.{IsUncut, StaysPlausible}
+use Rattle.rz_isa.specs.Nodes.{Code}
+use Rattle.rz_machine.specs.Nodes.{code_in, StandsIn}
 use Rattle.rz_machine.proofs.RecordedLaws.{nothing_stands}
 use Rattle.rz_machine.specs.Traced.{with_run}
 use Rattle.rz_machine.specs.WrittenFile.{Inert}
 use Rattle.rz_machine.specs.Keeps.{Keeps}
 use Rattle.rz_machine.specs.Added.{added}
 use Rattle.rz_elf.specs.PlainImage.{IsPlainRegion, IsPlainImage}
-use Rattle.rz_rewrite.proofs.AddedLaws.{sites-first, site_edges-first}
-use Rattle.rz_image.proofs.Cells.{IsFixed, all_map, none_self_written}
-use Rattle.rz_elf.proofs.PlainAccepted.{accepted_plain}
+use Rattle.rz_rewrite.specs.Laws.Sites.{keeps_no_transfers, no_sites, no_site_edges}
+use Rattle.rz_rewrite.specs.Refusals.{rip_reach_of as first_out_of_reach, no_room_for}
+use Rattle.rz_rewrite.specs.Rewritten.{CanRewrite, HasNoTransfers}
+use Rattle.rz_table.specs.declared.early_rows.TheConstants.{EARLY}
+use Rattle.rz_elf.specs.Laws.Loads.{loaded_image}
+use Rattle.rz_image.specs.Laws.Cells.{IsFixed, all_map, none_self_written}
+use Rattle.rz_elf.specs.Laws.PlainAccepted.{accepted_plain}
 use Rattle.rz_core.specs.Texts.{report_text}
-use Rattle.rz_core.specs.Debloated.{traced, kept_of, IsDebloated, report_of}
-use Rattle.rz_core.specs.Making.{IsOfThin, plain_report}
+use Rattle.rz_core.specs.Debloated.{traced, kept_of, rip_reach_of, no_room_of, IsDebloated, report_of}
+use Rattle.rz_core.specs.Making.{plain_report}
 
 -- each item of a list of bytes is one
-pub each_byte : (xs : List ℕ) → ((i : ℕ) → slice_index xs i < 256) → AllByRecursion (λ b. b < 256) xs
+each_byte : (xs : List ℕ) → ((i : ℕ) → slice_index xs i < 256) → AllByRecursion (λ b. b < 256) xs
 each_byte [] h = tt
 each_byte (x ∷ xs) h = (h 0, each_byte xs (λ i. h (suc i)))
-
--- what is read of a thin file
-pub of_thin : (x : List ℕ) (elf : Elf) → elf ≡ thin_elf x → IsThin x → fault_of x ≡ None → loaded elf ≡ image_of x → ((i : ℕ) → slice_index x i < 256) → IsOfThin elf
-of_thin x elf e thin accepted image bytes =
-    let b : elf.bytes ≡ x = ap (λ (f : Elf). f.bytes) e in
-    record {
-      thin = subst IsThin (sym b) thin;
-      accepted = ap fault_of b ∙ accepted;
-      read = e ∙ ap thin_elf (sym b);
-      image = image ∙ ap image_of (sym b);
-      bytes_fit = subst (AllByRecursion (λ c. c < 256)) (sym b) (each_byte x bytes);
-    }
-
--- what it loads is plain, and none of its code is written by itself
-pub plain_of : (elf : Elf) → IsOfThin elf → IsPlainImage (loaded elf)
-plain_of elf h = subst IsPlainImage (sym h.image) (accepted_plain elf.bytes h.bytes_fit h.accepted)
-
-pub unwritten_of : (elf : Elf) → IsOfThin elf → NoSelfWritten (loaded elf).loads
-unwritten_of elf h = none_self_written (loaded elf).loads (all_map IsPlainRegion IsFixed (λ r k. k.fixed) (loaded elf).loads (plain_of elf h))
 
 -- a record of nothing
 abbrev pub nothing : Kept
 nothing = record { nodes = []; edges = [] }
 
--- the report names no sites
-pub report_is : (elf : Elf) (limit : ℕ) (input : Input) (kept : Kept) (report : List ℕ) → IsOfThin elf → kept ≡ kept_of limit elf.bytes (input ∷ [])
-    → report ≡ plain_report (loaded elf) kept
-    → report ≡ report_of limit elf.bytes (input ∷ [])
-report_is elf limit input kept report h same e =
-    let m : Code = code_in (image_of elf.bytes).loads in
-    let k : Kept = kept_of limit elf.bytes (input ∷ []) in
-    e
-    ∙ ap₂ (λ (i : Image) (r : Kept). report_text (added decode_first i r).scratch (length r.edges) (length r.nodes) 0 0) h.image same
-    ∙ ap₂ (λ (es : List (ℕ × ℕ)) (ns : List ℕ). report_text (added decode_first (image_of elf.bytes) k).scratch (length k.edges) (length k.nodes) (length es) (length ns)) (sym (site_edges-first m (sorted_edges k.edges))) (sym (sites-first m (sorted k.nodes)))
+-- what was read of a file of bytes
+module _ (elf : ElfFile) (is : IsRead elf) where
+  -- its run is the traced run
+  pub traced_is : (input : Input) → start (loaded elf) input ≡ traced elf.bytes input
+  traced_is input = ap (λ (i : Image). start i input) (loaded_image elf is)
 
--- what is made of a thin file for the set that its run recorded
-pub debloated_of : (elf : Elf) (limit : ℕ) (input : Input) (kept : Kept) (w : List ℕ) → kept ≡ kept_of limit elf.bytes (input ∷ [])
-    → StaysInCode decode_first limit (traced elf.bytes input) → IsUncut decode_first kept.edges (traced elf.bytes input) limit
-    → Keeps decode_first elf.bytes w kept → Inert decode_first elf.bytes w kept
-    → IsDebloated limit elf.bytes (input ∷ []) w
-debloated_of elf limit input kept w same stays uncut keeps inert =
+  -- what was recorded from nothing is the kept set
+  pub kept_is : (limit : ℕ) (input : Input) (kept old : Kept) → old ≡ nothing → kept ≡ with_run decode_early limit (start (loaded elf) input) old → kept ≡ kept_of limit elf.bytes (input ∷ [])
+  kept_is limit input kept old o is_with = is_with ∙ ap₂ (λ (s : Machine) (r : Kept). with_run decode_early limit s r) (traced_is input) o
+
+  -- none of its code is written by itself, so what is recorded of its runs is plausible
+  pub plausible : (bytes : List ℕ) (limit : ℕ) (old new : Kept) → bytes ≡ elf.bytes → ((i : ℕ) → slice_index bytes i < 256) → 1 ≤ limit → old ≡ nothing
+      → StaysPlausible decode_early limit (loaded elf) old new → CanRewrite decode_early (image_of elf.bytes) new
+  plausible bytes limit old new same each some o stays =
+      let image : loaded elf ≡ image_of elf.bytes = loaded_image elf is in
+      let plain : IsPlainImage (image_of elf.bytes) = accepted_plain elf.bytes (subst (AllByRecursion (λ b. b < 256)) same (each_byte bytes each)) is.accepted in
+      let fixed : NoSelfWritten (image_of elf.bytes).loads = none_self_written (image_of elf.bytes).loads (all_map IsPlainRegion IsFixed (λ r k. k.fixed) (image_of elf.bytes).loads plain) in
+      let code : Code = code_in (image_of elf.bytes).loads in
+      let stands : StandsIn decode_early code old = subst (StandsIn decode_early code) (sym o) (nothing_stands decode_early code) in
+      subst (λ (i : Image). StaysPlausible decode_early limit i old new) image stays some fixed stands
+
+-- the table has no calls, no returns and no jumps by an operand
+pub no_transfers : (x : Image) (kept : Kept) → HasNoTransfers decode_early x kept
+no_transfers = keeps_no_transfers EARLY refl
+
+-- the report names no sites
+pub report_is : (x : List ℕ) (limit : ℕ) (input : Input) (kept : Kept) (report : List ℕ) → CanRewrite decode_early (image_of x) kept → kept ≡ kept_of limit x (input ∷ [])
+    → report ≡ plain_report (image_of x) kept → report ≡ report_of limit x (input ∷ [])
+report_is x limit input kept report can same e =
+    let k : Kept = kept_of limit x (input ∷ []) in
+    let can_k : CanRewrite decode_early (image_of x) k = subst (λ (l : Kept). CanRewrite decode_early (image_of x) l) same can in
+    let none = no_transfers (image_of x) k in
+    e
+    ∙ ap (plain_report (image_of x)) same
+    ∙ ap₂ (λ (es : List (ℕ × ℕ)) (ns : List ℕ). report_text (added decode_early (image_of x) k).scratch (length k.edges) (length k.nodes) (length es) (length ns))
+    (sym (no_site_edges decode_early (image_of x) k can_k none)) (sym (no_sites decode_early (image_of x) k can_k none))
+
+-- what is made of a file for the set that its run recorded
+pub debloated_of : (x : List ℕ) (limit : ℕ) (input : Input) (kept : Kept) (w : List ℕ) → kept ≡ kept_of limit x (input ∷ [])
+    → StaysInCode decode_early limit (traced x input) → first_out_of_reach decode_early x kept ≡ None → no_room_for decode_early x kept ≡ None → IsUncut decode_early kept.edges (traced x input) limit
+    → Keeps decode_early x w kept → Inert decode_early x w kept
+    → IsDebloated limit x (input ∷ []) w
+debloated_of x limit input kept w same stays reach room uncut keeps inert =
     record {
       stay = (stays, tt);
-      keeps = subst (Keeps decode_first elf.bytes w) same keeps;
-      uncut = (subst (λ (k : Kept). IsUncut decode_first k.edges (traced elf.bytes input) limit) same uncut, tt);
-      inert = subst (Inert decode_first elf.bytes w) same inert;
+      reach = ap (first_out_of_reach decode_early x) (sym same) ∙ reach;
+      room = ap (no_room_for decode_early x) (sym same) ∙ room;
+      keeps = subst (Keeps decode_early x w) same keeps;
+      uncut = (subst (λ (k : Kept). IsUncut decode_early k.edges (traced x input) limit) same uncut, tt);
+      inert = subst (Inert decode_early x w) same inert;
     }
 
--- the run of what is loaded of a thin file is the traced run
-pub traced_is : (elf : Elf) (input : Input) → IsOfThin elf → start (loaded elf) input ≡ traced elf.bytes input
-traced_is elf input h = ap (λ (i : Image). start i input) h.image
+-- an operand is out of reach, or none is
+pub rip_reach_is : (x : List ℕ) (limit : ℕ) (input : Input) (kept : Kept) (o : Option ℕ) → kept ≡ kept_of limit x (input ∷ []) → first_out_of_reach decode_early x kept ≡ o → rip_reach_of limit x (input ∷ []) ≡ o
+rip_reach_is x limit input kept o same e = ap (first_out_of_reach decode_early x) (sym same) ∙ e
 
--- what was recorded from nothing is the kept set
-pub kept_is : (elf : Elf) (limit : ℕ) (input : Input) (kept old : Kept) → IsOfThin elf → old ≡ nothing
-    → kept ≡ with_run decode_first limit (start (loaded elf) input) old → kept ≡ kept_of limit elf.bytes (input ∷ [])
-kept_is elf limit input kept old h o is = is ∙ ap₂ (λ (s : Machine) (r : Kept). with_run decode_first limit s r) (traced_is elf input h) o
-
-pub from_nothing : (code : Code) (old : Kept) → old ≡ nothing → StandsIn decode_first code old
-from_nothing code old o = subst (StandsIn decode_first code) (sym o) (nothing_stands decode_first code)
+-- there is no room for it
+pub no_room_is : (x : List ℕ) (limit : ℕ) (input : Input) (kept : Kept) (room : Room) → kept ≡ kept_of limit x (input ∷ []) → no_room_for decode_early x kept ≡ Some room → no_room_of limit x (input ∷ []) ≡ Some room
+no_room_is x limit input kept room same e = ap (no_room_for decode_early x) (sym same) ∙ e

@@ -1,5 +1,5 @@
 -- What a bounded read says of the whole file.
-use Rattle.std.proofs.Common.{◌≡◌, ◌≢◌, ◌==◌, ◌++◌, drop, if◌then◌else◌, inl, inr, ⊎_elim, Option, Some, None, lt-ltb, Bool, true, false, eqb-true, eq-eqb, ℕ, ◌+◌, ◌<◌, ◌≤◌, List, [], ◌∷◌, length, take, min, refl, sym, ap, ◌∙◌, subst, arith, take_all, length-take}
+use Rattle.std.proofs.Common.{◌≡◌, ◌≢◌, ◌==◌, ◌++◌, drop, if◌then◌else◌, ⊎_elim, Option, Some, None, lt-ltb, Bool, true, false, eqb-true, eq-eqb, ℕ, ◌<◌, ◌≤◌, List, [], ◌∷◌, length, take, min, refl, sym, ap, ◌∙◌, arith, take_all, length-take}
 use Rattle.std.proofs.lemmas.Bool.{cases_lt}
 use Rattle.std.specs.Prelude.{IsTrue, Err}
 use Rattle.rz_outside.specs.StoreAnswers.{Files, ReadsFirst}
@@ -7,27 +7,6 @@ use Rattle.rz_core.specs.Inputs.{input_of}
 use Rattle.rz_elf.specs.declared.fault.ElfFault.{ElfFault}
 use Rattle.rz_elf.specs.declared.fault.ElfFault.TheVariants as fault
 use Rattle.rz_elf.specs.Elf.{Condition, first_of, file_conditions, header_conditions, load_conditions, placed, loads, file_header, fault_of}
-use Rattle.rz_rewrite.specs.Thin.{IsThin}
-use Rattle.rz_rewrite.specs.ThinFault.{IsThinFault, IsUnbuilt}
-use Rattle.rz_rewrite.proofs.ThinLaws.{length-thin_file}
-
--- a thin file is small
-pub thin_small : (x : List ℕ) → IsThin x → length x ≤ 69632
-thin_small x thin =
-    let e : length x ≡ 4096 + length thin.code = ap length thin.file ∙ length-thin_file thin.code in
-    let few = thin.few in
-    omega arith
-
--- a read that gave fewer bytes than were asked for gave them all
-whole_read : (max : ℕ) (whole bytes : List ℕ) → bytes ≡ take max whole → length bytes < max → bytes ≡ whole
-whole_read max whole bytes e small =
-    let n : length bytes ≡ min max (length whole) = ap length e ∙ length-take max whole in
-    let fits : length whole ≤ max = omega arith in
-    e ∙ take_all max whole fits
-
--- where the first bytes are a thin file, they are the whole file
-pub thin_whole : (whole bytes : List ℕ) → bytes ≡ take 67108865 whole → IsThin bytes → bytes ≡ whole
-thin_whole whole bytes e thin = let small = thin_small bytes thin in whole_read 67108865 whole bytes e (omega arith)
 
 -- a file of too many bytes
 long_fault : (x : List ℕ) → 67108864 < length x → fault_of x ≡ Some fault.Long
@@ -66,11 +45,6 @@ accepted_whole whole bytes e h = ⊎_elim short long (cases_lt 67108865 (length 
 
     long : length whole ≤ 67108865 → bytes ≡ whole
     long le = e ∙ take_all 67108865 whole le
-
--- where the first bytes have to be a thin file and aren't, the whole file is refused alike
-pub thin_fault_whole : (whole bytes : List ℕ) (f : ElfFault) → bytes ≡ take 67108865 whole → IsThinFault bytes f → IsThinFault whole f
-thin_fault_whole whole bytes f e why =
-    ⊎_elim (λ h. inl (fault_whole whole bytes (Some f) e h)) (λ u. inr (u.0, subst IsUnbuilt (accepted_whole whole bytes e u.1.accepted) u.1)) why
 
 -- a file is empty exactly where its first bytes are
 pub empty_whole : (max : ℕ) (whole bytes : List ℕ) → 0 < max → bytes ≡ take max whole → length bytes ≡ 0 → whole ≡ []

@@ -7,7 +7,7 @@ use Rattle.rz_outside.specs.SinkCalls.{SinkCalls}
 use Rattle.rz_outside.specs.SinkAnswers.{appended}
 use Rattle.rz_elf.specs.Elf.{fault_of, image_of}
 use Rattle.rz_sys.specs.declared.input.Input.{Input}
-use Rattle.rz_rewrite.specs.Thin.{IsThin}
+use Rattle.rz_elf.specs.declared.room.Room.{Room}
 use Rattle.rz_core.specs.declared.status.Status.{Status}
 use Rattle.rz_core.specs.declared.status.Status.TheVariants as status
 use Rattle.rz_core.specs.declared.status.Target.TheVariants as target
@@ -15,12 +15,12 @@ use Rattle.rz_core.specs.Words.{Debloat, Check, Form, Debloating, Checking, form
 use Rattle.rz_core.specs.Inputs.{HoldInputs}
 use Rattle.rz_core.specs.Reading.{Course, wanted_by}
 use Rattle.rz_core.specs.Texts.{refusal_text, check_text}
-use Rattle.rz_core.specs.Debloated.{IsDebloated, LeavesFirst, report_of}
+use Rattle.rz_core.specs.Debloated.{AllStay, IsDebloated, LeavesFirst, rip_reach_of, no_room_of, report_of}
 
 -- the files that `debloat` reads hold x and these inputs
 pub record AreRead (d : Debloat) (Holds : List ℕ → List ℕ → Type 0) (x : List ℕ) (inputs : List Input) : Type 0 where
   pub exe : Holds d.exe x
-  pub thin : IsThin x
+  pub accepted : fault_of x ≡ None
   pub inputs_are : HoldInputs Holds d.inputs inputs
 
 -- w is made of them
@@ -69,6 +69,19 @@ LeftCodeOf (Debloating d) s n address =
     (x : List ℕ) × (inputs : List Input) × AreRead d (Held s) x inputs × LeavesFirst d.limit x 1 inputs n address
 LeftCodeOf (Checking c) s n address = ⊥
 
+-- no run leaves the code, and this is the least kept address whose operand is out of reach
+abbrev pub RipReachOf : Form → StoreCalls → ℕ → Type 0
+RipReachOf (Debloating d) s address =
+    (x : List ℕ) × (inputs : List Input) × AreRead d (Held s) x inputs × AllStay d.limit x inputs × (rip_reach_of d.limit x inputs ≡ Some address)
+RipReachOf (Checking c) s address = ⊥
+
+-- no run leaves the code, each operand is in reach, and there is no room for the added parts
+abbrev pub NoRoomOf : Form → StoreCalls → Room → Type 0
+NoRoomOf (Debloating d) s room =
+    (x : List ℕ) × (inputs : List Input) × AreRead d (Held s) x inputs × AllStay d.limit x inputs
+    × (rip_reach_of d.limit x inputs ≡ None) × (no_room_of d.limit x inputs ≡ Some room)
+NoRoomOf (Checking c) s room = ⊥
+
 -- the write of OUT failed
 abbrev pub WriteFails : Form → StoreCalls → Type 0
 WriteFails (Debloating d) s =
@@ -78,6 +91,8 @@ WriteFails (Checking c) s = ⊥
 -- the refusals that may come after the reads
 abbrev pub LastRefusal : Form → StoreCalls → Status → Type 0
 LastRefusal form s (status.LeftCode n address) = LeftCodeOf form s n address
+LastRefusal form s (status.RipReach address) = RipReachOf form s address
+LastRefusal form s (status.NoRoom room) = NoRoomOf form s room
 LastRefusal form s (status.WriteFault target.File) = WriteFails form s
 LastRefusal form s status.OutOfMemory = Unit {0}
 LastRefusal form s _ = ⊥

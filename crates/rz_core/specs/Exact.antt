@@ -4,12 +4,13 @@ use Rattle.rz_outside.specs.Counts.{Rose}
 use Rattle.rz_outside.specs.StoreAnswers.{Files}
 use Rattle.rz_outside.specs.StoreCalls.{StoreCalls}
 use Rattle.rz_outside.specs.SinkCalls.{SinkCalls}
+use Rattle.rz_elf.specs.declared.room.Room.{Room}
 use Rattle.rz_sys.specs.declared.input.Input.{Input}
 use Rattle.rz_core.specs.declared.status.Status.{Status}
 use Rattle.rz_core.specs.declared.status.Status.TheVariants as status
 use Rattle.rz_core.specs.Words.{Debloat, Form, Debloating, Checking, form_of}
 use Rattle.rz_core.specs.Reading.{Wanted, Meets, Refuses, wanted_by}
-use Rattle.rz_core.specs.Debloated.{AllStay, LeavesFirst}
+use Rattle.rz_core.specs.Debloated.{AllStay, LeavesFirst, rip_reach_of, no_room_of}
 use Rattle.rz_core.specs.Causes.{AreRead}
 
 -- the store tells its files, and neither count rose
@@ -40,12 +41,19 @@ abbrev pub IsInOrder : List Wanted → Files → Type 0 → Status → Type 0
 IsInOrder [] files End answer = End
 IsInOrder (w ∷ ws) files End answer = IsAnswered files w answer × (IsFit files w → IsInOrder ws files End answer)
 
--- after its reads `debloat` answers LeftCode where a run leaves the code, and else Ok
+-- after its reads `debloat` answers LeftCode where a run leaves the code, then RipReach where an operand is out of reach,
+-- then NoRoom where there is no room, and else Ok
 pub record EndsExactly (d : Debloat) (files : Files) (answer : Status) : Type 0 where
   pub left_code : (x : List ℕ) (inputs : List Input) (n address : ℕ) → AreRead d (holds files) x inputs
       → LeavesFirst d.limit x 1 inputs n address → Gives (status.LeftCode n address) answer
+  pub rip_reach : (x : List ℕ) (inputs : List Input) (address : ℕ) → AreRead d (holds files) x inputs
+      → AllStay d.limit x inputs → rip_reach_of d.limit x inputs ≡ Some address → Gives (status.RipReach address) answer
+  pub no_room : (x : List ℕ) (inputs : List Input) (room : Room) → AreRead d (holds files) x inputs
+      → AllStay d.limit x inputs → rip_reach_of d.limit x inputs ≡ None → no_room_of d.limit x inputs ≡ Some room
+      → Gives (status.NoRoom room) answer
   pub complete : (x : List ℕ) (inputs : List Input) → AreRead d (holds files) x inputs
-      → AllStay d.limit x inputs → Gives status.Ok answer
+      → AllStay d.limit x inputs → rip_reach_of d.limit x inputs ≡ None → no_room_of d.limit x inputs ≡ None
+      → Gives status.Ok answer
 
 -- `check` answers Ok
 abbrev pub LastExact : Form → Files → Status → Type 0

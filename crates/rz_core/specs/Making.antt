@@ -1,16 +1,11 @@
 -- What is made of a file and an input, and when it is refused.
-use Rattle.std.specs.Prelude.{◌≡◌, ◌⊎◌, ◌<◌, ℕ, IsTrue, List, length, take, Some, None}
-use Rattle.std.specs.List.{AllByRecursion}
+use Rattle.std.specs.Prelude.{◌≡◌, ◌⊎◌, ℕ, IsTrue, List, [], ◌∷◌, length, take, Some, None}
 use Rattle.rz_outside.specs.Counts.{Rose}
 use Rattle.rz_outside.specs.StoreCalls.{StoreCalls}
-use Rattle.rz_elf.specs.declared.elf.Elf.{Elf}
-use Rattle.rz_elf.specs.Elf.{Image, fault_of, image_of}
+use Rattle.rz_elf.specs.Elf.{Image}
 use Rattle.rz_sys.specs.declared.input.Input.{Input}
-use Rattle.rz_machine.specs.First.{decode_first}
-use Rattle.rz_machine.specs.LeftCode.{LeavesCode}
-use Rattle.rz_elf.specs.Loaded.{loaded}
-use Rattle.rz_rewrite.specs.ThinElf.{thin_elf}
-use Rattle.rz_rewrite.specs.Thin.{IsThin}
+use Rattle.rz_core.specs.Decoding.{decode_early}
+use Rattle.rz_machine.specs.LeftCode.{LeavesCode, StaysInCode}
 use Rattle.rz_core.specs.declared.making.MakeRefusal.{MakeRefusal}
 use Rattle.rz_core.specs.declared.making.MakeRefusal.TheVariants as make
 use Rattle.rz_core.specs.declared.making.Made.{Made}
@@ -22,24 +17,21 @@ use Rattle.rz_core.specs.Reading.{Course, wanted_by}
 use Rattle.rz_machine.specs.Kept.{Kept}
 use Rattle.rz_machine.specs.Added.{added}
 use Rattle.rz_core.specs.Texts.{report_text}
-use Rattle.rz_core.specs.Debloated.{traced, report_of}
-use Rattle.rz_core.specs.Causes.{IsNew, LastRefusal, LeftCodeOf}
+use Rattle.rz_core.specs.Debloated.{traced, rip_reach_of, no_room_of, report_of}
+use Rattle.rz_core.specs.Causes.{IsNew, LastRefusal, LeftCodeOf, RipReachOf, NoRoomOf}
 
--- a thin file as it was read
-pub record IsOfThin (elf : Elf) : Type 0 where
-  pub thin : IsThin elf.bytes
-  pub accepted : fault_of elf.bytes ≡ None
-  pub read : elf ≡ thin_elf elf.bytes
-  pub image : loaded elf ≡ image_of elf.bytes
-  pub bytes_fit : AllByRecursion (λ b. b < 256) elf.bytes
-
+-- why nothing was made: the run left the code, or an operand is out of reach, or there is no room for the parts, or no memory
 abbrev pub MakeRefused : ℕ → List ℕ → Input → MakeRefusal → Type 0
-MakeRefused limit x input (make.LeftCode a) = LeavesCode decode_first limit (traced x input) a
+MakeRefused limit x input (make.LeftCode a) = LeavesCode decode_early limit (traced x input) a
+MakeRefused limit x input (make.RipReach a) =
+    StaysInCode decode_early limit (traced x input) × (rip_reach_of limit x (input ∷ []) ≡ Some a)
+MakeRefused limit x input (make.NoRoom room) =
+    StaysInCode decode_early limit (traced x input) × (rip_reach_of limit x (input ∷ []) ≡ None) × (no_room_of limit x (input ∷ []) ≡ Some room)
 MakeRefused limit x input make.OutOfMemory = Unit {0}
 
 -- the report of a kept set without sites
 abbrev pub plain_report : Image → Kept → List ℕ
-plain_report x kept = report_text (added decode_first x kept).scratch (length kept.edges) (length kept.nodes) 0 0
+plain_report x kept = report_text (added decode_early x kept).scratch (length kept.edges) (length kept.nodes) 0 0
 
 -- what is made of the files that a command reads
 pub record IsMade (d : Debloat) (Holds : List ℕ → List ℕ → Type 0) (m : Made) : Type 0 where
@@ -55,6 +47,8 @@ IsRefusal form s answer = Course (wanted_by form) s (LastRefusal form s) answer
 -- before the write
 abbrev pub LastMakeRefusal : Debloat → StoreCalls → Status → Type 0
 LastMakeRefusal d s (status.LeftCode n address) = LeftCodeOf (Debloating d) s n address
+LastMakeRefusal d s (status.RipReach address) = RipReachOf (Debloating d) s address
+LastMakeRefusal d s (status.NoRoom room) = NoRoomOf (Debloating d) s room
 LastMakeRefusal d s status.OutOfMemory = Unit {0}
 LastMakeRefusal d s _ = ⊥
 

@@ -6,16 +6,13 @@ use Rattle.rz_outside.specs.StoreCalls.{StoreCalls, Held}
 use Rattle.rz_elf.specs.declared.fault.ElfFault.{ElfFault}
 use Rattle.rz_elf.specs.Elf.{fault_of}
 use Rattle.rz_sys.specs.declared.input.Input.{Input}
-use Rattle.rz_rewrite.specs.Thin.{IsThin}
-use Rattle.rz_rewrite.specs.ThinFault.{IsThinFault}
 use Rattle.rz_core.specs.declared.status.Status.{Status}
 use Rattle.rz_core.specs.declared.status.Status.TheVariants as status
 use Rattle.rz_core.specs.Inputs.{input_of}
 use Rattle.rz_core.specs.Words.{Form, Debloating, Checking}
 
--- what a file has to be: a thin file, an accepted one, or the input of this number
+-- what a file has to be: an accepted file, or the input of this number
 pub data Demand : Type 0 where
-  Thin : Demand
   Accepted : Demand
   InputNumber : ℕ → Demand
 
@@ -34,18 +31,16 @@ wanted_inputs k (name ∷ names) = wanted name (InputNumber k) ∷ wanted_inputs
 
 -- the files that a form reads, in order
 abbrev pub wanted_by : Form → List Wanted
-wanted_by (Debloating d) = wanted d.exe Thin ∷ wanted_inputs 1 d.inputs
+wanted_by (Debloating d) = wanted d.exe Accepted ∷ wanted_inputs 1 d.inputs
 wanted_by (Checking c) = wanted c.exe Accepted ∷ []
 
 -- these bytes are what is demanded
 abbrev pub Meets : Demand → List ℕ → Type 0
-Meets Thin x = IsThin x
 Meets Accepted x = fault_of x ≡ None
 Meets (InputNumber k) x = (input : Input) × (input_of x ≡ Ok input)
 
 -- they aren't, which a file of this name is refused with
 abbrev pub Refuses : Demand → List ℕ → List ℕ → Status → Type 0
-Refuses Thin name x answer = (f : ElfFault) × (answer ≡ status.Refused name f) × IsThinFault x f
 Refuses Accepted name x answer = (f : ElfFault) × (answer ≡ status.Refused name f) × (fault_of x ≡ Some f)
 Refuses (InputNumber k) name x answer = (line : ℕ) × (answer ≡ status.BadInput k line) × (input_of x ≡ Err line)
 

@@ -3,6 +3,8 @@ use Rattle.std.specs.Prelude.{ℕ, false, List, [], ◌∷◌, ◌++◌, codes, 
 use Rattle.std.specs.Fmt.{digits}
 use Rattle.rz_elf.specs.declared.fault.ElfFault.{ElfFault}
 use Rattle.rz_elf.specs.declared.fault.ElfFault.TheVariants as fault
+use Rattle.rz_elf.specs.declared.room.Room.{Room}
+use Rattle.rz_elf.specs.declared.room.Room.TheVariants as room
 use Rattle.rz_core.specs.declared.status.Status.{Status}
 use Rattle.rz_core.specs.declared.status.Status.TheVariants as status
 use Rattle.rz_core.specs.declared.status.Target.TheVariants as target
@@ -55,7 +57,13 @@ fault_text (fault.SharedPage i) = numbered (codes "SharedPage") i
 fault_text fault.TotalSize = codes "TotalSize"
 fault_text fault.NoLoad = codes "NoLoad"
 fault_text fault.Entry = codes "Entry"
-fault_text fault.Unbuilt = codes "Unbuilt"
+
+-- the printed name of a cause against added parts
+abbrev pub room_text : Room → List ℕ
+room_text room.Low = codes "Low"
+room_text room.Headers = codes "Headers"
+room_text room.Length = codes "Length"
+room_text room.Total = codes "Total"
 
 -- the text of a refusal; the other answers have none of their own
 abbrev pub refusal_text : Status → List ℕ
@@ -63,6 +71,8 @@ refusal_text status.Usage = codes "usage\n"
 refusal_text (status.Refused file why) = codes "refused " ++ (file ++ (32 ∷ (fault_text why ++ 10 ∷ [])))
 refusal_text (status.BadInput input line) = codes "bad input " ++ (decimal input ++ (32 ∷ (decimal line ++ 10 ∷ [])))
 refusal_text (status.LeftCode input address) = codes "left code " ++ (decimal input ++ (32 ∷ (hex_text address ++ 10 ∷ [])))
+refusal_text (status.RipReach address) = codes "rip reach " ++ (hex_text address ++ 10 ∷ [])
+refusal_text (status.NoRoom room) = codes "no room " ++ (room_text room ++ 10 ∷ [])
 refusal_text (status.ReadFault file) = codes "read fault " ++ (file ++ 10 ∷ [])
 refusal_text (status.WriteFault target.File) = codes "write fault file\n"
 refusal_text (status.WriteFault target.Text) = []

@@ -7,19 +7,16 @@ ghost use Rattle.rz_sys.specs.Input.{IsEmptyInput};
 ghost use Rattle.rz_core.specs.Words.{Debloating};
 ghost use Rattle.rz_core.specs.Commands.{words_of};
 ghost use Rattle.rz_core.specs.Inputs.{HoldsInput};
-ghost use Rattle.rz_core.specs.Reading.{Thin, InputNumber, FileRefusal, wanted};
+ghost use Rattle.rz_core.specs.Reading.{InputNumber, FileRefusal, wanted};
 ghost use Rattle.rz_core.specs.Causes.{IsReported, FilesAfterDebloat};
-ghost use Rattle.rz_core.specs.Making.{IsMade, IsOfThin, IsRefusal, IsMakeRefusal, WriteRefusal};
+ghost use Rattle.rz_core.specs.Making.{IsMade, IsRefusal, IsMakeRefusal, WriteRefusal};
 
 use crate::making::{Made, MakeRefusal, make};
-use crate::reading::{EXECUTABLE_MAX, TEXT_MAX, are_bytes, read};
+use crate::reading::{TEXT_MAX, read, read_accepted};
 use crate::status::{Status, Target};
 use crate::words::Debloat;
-use rz_elf::elf::Elf;
-use rz_elf::fault::ElfError;
 use rz_num::{Bytes, OutOfMemory, Text};
 use rz_outside::{Store, WriteErr};
-use rz_rewrite::thin::read_thin;
 use rz_sys::input::Input;
 use std::alloc::Global;
 
@@ -35,29 +32,6 @@ fn write<S: Store>(alloc: Global, store: &mut S, name: &Text, bytes: &Bytes) -> 
         Ok(()) => Ok(()),
         Err(WriteErr::Failed) => Err(Status::WriteFault(Target::File)),
         Err(WriteErr::OutOfMemory) => Err(Status::OutOfMemory),
-    }
-}
-
-// The executable, where it is a thin file.
-fn read_executable<S: Store>(alloc: Global, store: &mut S, name: &Text) -> Result<Elf, Status>
-    ensures telling { S.told store.new ≡ S.told store.old }
-    ensures kept { SameFiles (S.files store.old) (S.files store.new) }
-    ensures count { S.faults store.old ≤ S.faults store.new }
-    ensures thin { IfOk result IsOfThin }
-    ensures read { IfOk result (λ elf.
-        Held (store_calls S.Store store.old store.new) name.now elf.bytes) }
-    ensures cause { IfErr result
-        (FileRefusal (wanted name.now Thin) (store_calls S.Store store.old store.new)) }
-{
-    let Ok(file) = Text::from_slice(alloc, name.as_slice()) else {
-        return Err(Status::OutOfMemory);
-    };
-    let bytes = read(alloc, store, name, EXECUTABLE_MAX)?;
-    are_bytes(&bytes);
-    match read_thin(alloc, bytes) {
-        Ok(elf) => Ok(elf),
-        Err(ElfError::Fault(fault)) => Err(Status::Refused { file, fault }),
-        Err(ElfError::OutOfMemory) => Err(Status::OutOfMemory),
     }
 }
 
@@ -91,11 +65,13 @@ fn prepare<S: Store>(alloc: Global, d: &Debloat<'_>, store: &mut S) -> Result<Ma
     ensures cause { IfErr result
         (IsMakeRefusal (words_of d.now) (store_calls S.Store store.old store.new)) }
 {
-    let elf = read_executable(alloc, store, d.exe)?;
+    let elf = read_accepted(alloc, store, d.exe)?;
     let input = read_input(alloc, store, d.input)?;
     match make(alloc, &elf, &input, d.limit) {
         Ok(made) => Ok(made),
         Err(MakeRefusal::LeftCode(address)) => Err(Status::LeftCode { input: 1, address }),
+        Err(MakeRefusal::RipReach(address)) => Err(Status::RipReach { address }),
+        Err(MakeRefusal::NoRoom(room)) => Err(Status::NoRoom(room)),
         Err(MakeRefusal::OutOfMemory) => Err(Status::OutOfMemory),
     }
 }

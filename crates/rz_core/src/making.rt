@@ -1,8 +1,7 @@
 //! From a file to its new file: the trace, the new parts, the written file and the report.
 
-ghost use Rattle.std.specs.Prelude.{◌≡◌, ◌≤◌, [], ◌∷◌, IfOk, IfErr, OnOk};
-ghost use Rattle.rz_elf.specs.Loaded.{loaded};
-ghost use Rattle.rz_machine.specs.First.{decode_first};
+ghost use Rattle.std.specs.Prelude.{◌≡◌, ◌≤◌, [], ◌∷◌, None, IfOk, IfErr, OnOk};
+ghost use Rattle.rz_elf.specs.Elf.{image_of};
 ghost use Rattle.rz_machine.specs.Keeps.{Keeps};
 ghost use Rattle.rz_machine.specs.LeftCode.{StaysInCode};
 ghost use Rattle.rz_machine.specs.Recorded.{IsUncut};
@@ -10,24 +9,31 @@ ghost use Rattle.rz_rewrite.specs.Rewritten.{CanRewrite};
 ghost use Rattle.rz_machine.specs.Traced.{kept_in};
 ghost use Rattle.rz_sys.specs.Input.{IsEmptyInput};
 ghost use Rattle.rz_machine.specs.WrittenFile.{Inert};
+ghost use Rattle.rz_core.specs.Decoding.{decode_early};
 ghost use Rattle.rz_core.specs.Debloated.{IsDebloated, kept_of, traced, report_of};
-ghost use Rattle.rz_core.specs.Making.{IsOfThin, MakeRefused, plain_report};
+ghost use Rattle.rz_rewrite.specs.Refusals.{IsRefusal, no_room_for, rip_reach_of};
+ghost use Rattle.rz_core.specs.Making.{MakeRefused, plain_report};
 ghost use Rattle.rz_core.specs.Texts.{report_text};
 
 use crate::texts;
 use rz_elf::elf::Elf;
-use rz_machine::first::First;
+use rz_elf::room::Room;
 use rz_machine::trace::{Record, TraceRefusal, trace};
-use rz_num::{Bytes, OutOfMemory};
-use rz_rewrite::rewrite::{New, rewrite};
+use rz_num::{Bytes, OutOfMemory, are_bytes};
+use rz_rewrite::rewrite::{New, Refusal, rewrite};
 use rz_sys::input::Input;
-use std::alloc::{AllocError, Global};
+use rz_table::Early;
+use std::alloc::Global;
 
 /// Why no new file was made.
 #[derive(Clone, Copy, PartialEq, Eq, Debug)]
 pub enum MakeRefusal {
     /// The traced run came to this address, where no instruction is spelled.
     LeftCode(u64),
+    /// The instruction at this kept address names an address relative to RIP that is out of reach.
+    RipReach(u64),
+    /// The added parts have no room in the new file.
+    NoRoom(Room),
     OutOfMemory,
 }
 
@@ -38,9 +44,8 @@ pub struct Made {
     pub report: Bytes,
 }
 
-/// Debloats a thin file for its run of `limit` steps on an input, which has to be empty so far.
+/// Debloats a file for its run of `limit` steps on an input, which has to be empty so far.
 pub fn make(alloc: Global, elf: &Elf, input: &Input, limit: u64) -> Result<Made, MakeRefusal>
-    requires thin { IsOfThin elf.now }
     requires input { IsEmptyInput input.now }
     requires some { 1 ≤ limit }
     ensures made { IfOk result (λ m. IsDebloated limit elf.now.bytes (input.now ∷ []) m.bytes) }
@@ -50,39 +55,45 @@ pub fn make(alloc: Global, elf: &Elf, input: &Input, limit: u64) -> Result<Made,
     let kept = record_run(alloc, elf, input, limit)?;
     match write_new(alloc, elf, &kept) {
         Ok(made) => Ok(made),
-        Err(OutOfMemory) => Err(MakeRefusal::OutOfMemory),
+        Err(Refusal::RipReach(address)) => Err(MakeRefusal::RipReach(address)),
+        Err(Refusal::NoRoom(room)) => Err(MakeRefusal::NoRoom(room)),
+        Err(Refusal::OutOfMemory) => Err(MakeRefusal::OutOfMemory),
     }
 }
 
-// What the run of a thin file on an input records in its first `limit` steps.
+// What the run of a file on an input records in its first `limit` steps.
 fn record_run(alloc: Global, elf: &Elf, input: &Input, limit: u64) -> Result<Record, MakeRefusal>
-    requires thin { IsOfThin elf.now }
     requires input { IsEmptyInput input.now }
     requires some { 1 ≤ limit }
     ensures kept { IfOk result (λ kept. kept_in kept ≡ kept_of limit elf.now.bytes (input.now ∷ [])) }
-    ensures plausible { IfOk result (λ kept. CanRewrite decode_first (loaded elf.now) (kept_in kept)) }
-    ensures stays { OnOk result (StaysInCode decode_first limit (traced elf.now.bytes input.now)) }
+    ensures plausible { IfOk result (λ kept.
+        CanRewrite decode_early (image_of elf.now.bytes) (kept_in kept)) }
+    ensures stays { OnOk result (StaysInCode decode_early limit (traced elf.now.bytes input.now)) }
     ensures uncut { IfOk result (λ kept.
-        IsUncut decode_first kept.edges (traced elf.now.bytes input.now) limit) }
+        IsUncut decode_early kept.edges (traced elf.now.bytes input.now) limit) }
     ensures err { IfErr result (MakeRefused limit elf.now.bytes input.now) }
 {
+    are_bytes(elf.bytes.as_slice());
     let mut kept = Record::new(alloc);
-    match trace::<First>(alloc, elf, input, limit, &mut kept) {
+    match trace::<Early>(alloc, elf, input, limit, &mut kept) {
         Ok(()) => Ok(kept),
         Err(TraceRefusal::LeftCode(address)) => Err(MakeRefusal::LeftCode(address)),
         Err(TraceRefusal::OutOfMemory) => Err(MakeRefusal::OutOfMemory),
     }
 }
 
-// The new file of a thin file for what is kept, and the report of it.
-fn write_new(alloc: Global, elf: &Elf, kept: &Record) -> Result<Made, OutOfMemory>
-    requires thin { IsOfThin elf.now }
-    requires plausible { CanRewrite decode_first (loaded elf.now) (kept_in kept.now) }
-    ensures keeps { IfOk result (λ m. Keeps decode_first elf.now.bytes m.bytes (kept_in kept.now)) }
-    ensures inert { IfOk result (λ m. Inert decode_first elf.now.bytes m.bytes (kept_in kept.now)) }
-    ensures report { IfOk result (λ m. m.report ≡ plain_report (loaded elf.now) (kept_in kept.now)) }
+// The new file of a file for what is kept, and the report of it.
+fn write_new(alloc: Global, elf: &Elf, kept: &Record) -> Result<Made, Refusal>
+    requires plausible { CanRewrite decode_early (image_of elf.now.bytes) (kept_in kept.now) }
+    ensures keeps { IfOk result (λ m. Keeps decode_early elf.now.bytes m.bytes (kept_in kept.now)) }
+    ensures inert { IfOk result (λ m. Inert decode_early elf.now.bytes m.bytes (kept_in kept.now)) }
+    ensures report { IfOk result (λ m.
+        m.report ≡ plain_report (image_of elf.now.bytes) (kept_in kept.now)) }
+    ensures reach { OnOk result (rip_reach_of decode_early elf.now.bytes (kept_in kept.now) ≡ None) }
+    ensures room { OnOk result (no_room_for decode_early elf.now.bytes (kept_in kept.now) ≡ None) }
+    ensures refused { IfErr result (IsRefusal decode_early elf.now.bytes (kept_in kept.now)) }
 {
-    let New { bytes, base } = rewrite(alloc, elf, kept)?;
+    let New { bytes, base } = rewrite::<Early>(alloc, elf, kept)?;
     let edges = kept.edges.len() as u64;
     let instructions = kept.nodes.len() as u64;
     let report = report_bytes(alloc, base, edges, instructions)?;

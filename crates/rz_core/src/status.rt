@@ -4,6 +4,7 @@ ghost use Rattle.std.specs.Prelude.{◌≡◌};
 ghost use Rattle.rz_core.specs.Number.{number_of};
 
 use rz_elf::fault::ElfFault;
+use rz_elf::room::Room;
 use rz_num::Text;
 use thiserror::Error;
 
@@ -28,6 +29,10 @@ pub enum Status {
     BadInput { input: u64, line: u64 },
     /// The run of an input leaves the code at this address.
     LeftCode { input: u64, address: u64 },
+    /// The instruction at this kept address names an address relative to RIP that is out of reach.
+    RipReach { address: u64 },
+    /// The added parts have no room in the new file.
+    NoRoom(Room),
     /// A file could not be read.
     ReadFault { file: Text },
     WriteFault(Target),
@@ -44,6 +49,8 @@ pub fn number(status: &Status) -> u8
         Status::Refused { .. } => 2,
         Status::BadInput { .. } => 3,
         Status::LeftCode { .. } => 5,
+        Status::RipReach { .. } => 6,
+        Status::NoRoom(_) => 7,
         Status::ReadFault { .. } => 8,
         Status::WriteFault(_) => 9,
         Status::OutOfMemory => 12,

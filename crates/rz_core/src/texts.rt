@@ -1,10 +1,11 @@
 //! The texts that the tool puts.
 
 ghost use Rattle.std.specs.Prelude.{◌≡◌, string_bytes, IfOk};
-ghost use Rattle.rz_core.specs.Texts.{report_text, check_text, fault_text as text_of_fault, refusal_text as text_of_refusal};
+ghost use Rattle.rz_core.specs.Texts.{report_text, check_text, fault_text as text_of_fault, refusal_text as text_of_refusal, room_text as text_of_room};
 
 use crate::status::{Status, Target};
 use rz_elf::fault::ElfFault;
+use rz_elf::room::Room;
 use std::alloc::{AllocError, Global};
 
 /// The report of a debloating.
@@ -59,7 +60,17 @@ fn fault_text(alloc: Global, fault: ElfFault) -> Result<String, AllocError>
         ElfFault::TotalSize => format!(in alloc; "TotalSize"),
         ElfFault::NoLoad => format!(in alloc; "NoLoad"),
         ElfFault::Entry => format!(in alloc; "Entry"),
-        ElfFault::Unbuilt => format!(in alloc; "Unbuilt"),
+    }
+}
+
+fn room_text(alloc: Global, room: Room) -> Result<String, AllocError>
+    ensures { IfOk result (λ s. string_bytes s ≡ text_of_room room) }
+{
+    match room {
+        Room::Low => format!(in alloc; "Low"),
+        Room::Headers => format!(in alloc; "Headers"),
+        Room::Length => format!(in alloc; "Length"),
+        Room::Total => format!(in alloc; "Total"),
     }
 }
 
@@ -78,6 +89,11 @@ pub fn refusal(alloc: Global, status: &Status) -> Result<String, AllocError>
         Status::LeftCode { input, address } => format!(in alloc;
             "left code {input} 0x{address:x}\n"
         ),
+        Status::RipReach { address } => format!(in alloc; "rip reach 0x{address:x}\n"),
+        Status::NoRoom(room) => {
+            let room = room_text(alloc, *room)?;
+            format!(in alloc; "no room {room}\n")
+        }
         Status::ReadFault { file } => {
             let file = file.as_slice();
             format!(in alloc; "read fault {file}\n")

@@ -7,7 +7,7 @@ use Rattle.std.proofs.lemmas.List.{append-nil, take-append-drop, take_all}
 use Rattle.std.proofs.lemmas.Grind.{common_steps}
 use Rattle.rz_isa.specs.declared.rows.Row.{Row}
 use Rattle.rz_isa.specs.declared.instruction.Insn.{Insn}
-use Rattle.rz_isa.specs.Number.{are_bytes}
+use Rattle.rz_num.specs.Bytes.{are_bytes}
 use Rattle.rz_isa.specs.Spelling.{Parts, bytes_of, SpelledBy}
 use Rattle.rz_isa.specs.Fields.{fields, build_op}
 use Rattle.rz_isa.specs.Spells.{Spells, Begins, IsUnknown}

@@ -10,7 +10,7 @@ use Rattle.rz_isa.specs.declared.rows.OpMap.TheVariants as maps
 use Rattle.rz_isa.specs.declared.rows.Row.{Row}
 use Rattle.rz_isa.specs.declared.rows.Size.{Size}
 use Rattle.rz_isa.specs.declared.rows.Size.TheVariants as sizes
-use Rattle.rz_isa.specs.Number.{are_bytes}
+use Rattle.rz_num.specs.Bytes.{are_bytes}
 use Rattle.rz_isa.specs.Spelling.{Parts, bytes_of, Fits, is_prefix, is_rex, rex_fits, rex_bytes, escape, is_met, opcode_fits, prefixes_fit, w_demand, b_demand, bit_w, bit_b}
 use Rattle.rz_isa.specs.Reading.{Opcode, skip_while, rex_at, behind_rex}
 use Rattle.rz_isa.specs.Regular.{is_regular, is_block}

@@ -10,7 +10,7 @@ use Rattle.rz_isa.specs.declared.decoding.Decoded.{Decoded}
 use Rattle.rz_isa.specs.declared.decoding.Decoded.TheVariants as decodeds
 use Rattle.rz_isa.specs.declared.rows.Row.{Row}
 use Rattle.rz_isa.specs.declared.rows.RmRule.{RmRule}
-use Rattle.rz_isa.specs.Number.{are_bytes}
+use Rattle.rz_num.specs.Bytes.{are_bytes}
 use Rattle.rz_isa.specs.Spelling.{Parts, bytes_of, is_prefix, rm_fits}
 use Rattle.rz_isa.specs.Reading.{skip_while, behind_rex, opcode_at}
 use Rattle.rz_isa.specs.Fields.{fields, build_op}

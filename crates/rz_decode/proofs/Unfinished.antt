@@ -3,7 +3,7 @@ use Rattle.std.specs.Prelude.{nat_le, slice_get}
 use Rattle.std.proofs.lemmas.Bool.{cases_Bool}
 use Rattle.std.proofs.lemmas.Bool.Decides.{nat_tests}
 use Rattle.rz_isa.specs.declared.rows.Row.{Row}
-use Rattle.rz_isa.specs.Number.{are_bytes}
+use Rattle.rz_num.specs.Bytes.{are_bytes}
 use Rattle.rz_isa.specs.Spelling.{is_prefix}
 use Rattle.rz_isa.specs.Reading.{Head, skip_while, behind_rex, opcode_at, head_at}
 use Rattle.rz_isa.specs.Table.{is_plain}

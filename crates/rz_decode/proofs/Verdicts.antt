@@ -7,7 +7,7 @@ use Rattle.std.proofs.lemmas.List.{take-append-le, drop-append-le}
 use Rattle.std.proofs.lemmas.Grind.{common_steps}
 use Rattle.rz_isa.specs.declared.rows.Row.{Row}
 use Rattle.rz_isa.specs.declared.rows.RmRule.{RmRule}
-use Rattle.rz_isa.specs.Number.{are_bytes}
+use Rattle.rz_num.specs.Bytes.{are_bytes}
 use Rattle.rz_isa.specs.Spelling.{Parts, bytes_of, SpelledBy, rex_bytes, escape}
 use Rattle.rz_isa.specs.Regular.{is_regular}
 use Rattle.rz_isa.specs.Table.{is_plain, all_exclude, OneRow}

@@ -56,9 +56,6 @@ pub enum ElfFault {
     NoLoad,
     #[error("Entry")]
     Entry,
-    /// The file is of a form that razor doesn't debloat yet.
-    #[error("Unbuilt")]
-    Unbuilt,
 }
 
 /// Why a file isn't read.

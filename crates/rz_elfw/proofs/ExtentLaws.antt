@@ -9,10 +9,10 @@ use Rattle.rz_elf.specs.declared.segment.Segment.{Segment}
 use Rattle.rz_elf.specs.Elf.{file_header, loads, load_conditions, placed, fault_of, Image, image_of}
 use Rattle.rz_elf.specs.AddedRange.{lowest, page_floor}
 use Rattle.rz_elf.specs.Loaded.{ElfFile, IsRead, is_load_header, load_of, elf_of, loaded_region, loaded}
-use Rattle.rz_elf.proofs.Conditions.{none_holds}
-use Rattle.rz_elf.proofs.HeaderList.{loads_placed}
-use Rattle.rz_elf.proofs.Loads.{loaded_image}
-use Rattle.rz_elf.proofs.Reading.{loads_faultless}
+use Rattle.rz_elf.specs.Laws.Conditions.{none_holds}
+use Rattle.rz_elf.specs.Laws.HeaderList.{loads_placed}
+use Rattle.rz_elf.specs.Laws.Loads.{loaded_image}
+use Rattle.rz_elf.specs.Laws.Reading.{loads_faultless}
 
 sizes_of : (ps : List Placed) → sum_by (λ (l : Load). l.size) (map load_of ps) ≡ sum_by (λ (s : Segment). s.memsz) (map (λ (p : Placed). p.segment) ps)
 sizes_of [] = refl

@@ -6,12 +6,12 @@ use Rattle.std.proofs.lemmas.List.{drop_at, get_or-drop, length-append}
 use Rattle.byteorder.specs.Endian.{little_bytes, little_number}
 use Rattle.byteorder.specs.Numbers.{little_from-lt, little_number-reads_back}
 use Rattle.rz_image.specs.Memory.{zeros}
-use Rattle.rz_image.proofs.Zeros.{length-zeros}
+use Rattle.rz_image.specs.Laws.Zeros.{length-zeros}
 use Rattle.rz_elf.specs.declared.segment.Segment.{Segment}
 use Rattle.rz_elf.specs.declared.header.FileHeader.{FileHeader}
 use Rattle.rz_elf.specs.Elf.{field, file_header, segment_of, segments, segments_of}
 use Rattle.rz_elf.specs.WrittenFile.{segment_bytes, header_bytes, header_page}
-use Rattle.rz_elf.proofs.Accepted.{executable_header}
+use Rattle.rz_elf.specs.Laws.Accepted.{executable_header}
 
 -- each is a byte
 abbrev pub AreBytes : List ℕ → Type 0

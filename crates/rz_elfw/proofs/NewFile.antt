@@ -10,16 +10,16 @@ use Rattle.rz_image.specs.declared.perm.Perm.{Perm}
 use Rattle.rz_image.specs.declared.region.Region.{Region}
 use Rattle.rz_image.specs.Perm.{perm_of, read_write}
 use Rattle.rz_image.specs.Memory.{zeros, whole_region}
-use Rattle.rz_image.proofs.Zeros.{length-zeros}
+use Rattle.rz_image.specs.Laws.Zeros.{length-zeros}
 use Rattle.rz_elf.specs.declared.segment.Segment.{Segment}
 use Rattle.rz_elf.specs.declared.header.FileHeader.{FileHeader}
 use Rattle.rz_elf.specs.Elf.{segments, is_load, loads, file_header, placed, placed_from, has_entry, file_conditions, header_conditions, load_conditions, fault_of, load_bytes, load_region, highest_end, Image, image_of}
 use Rattle.rz_elf.specs.AddedRange.{page_floor, scratch_size}
 use Rattle.rz_elf.specs.WrittenFile.{Parts, added_segment, added_segments, new_segments, moved, without_execute, header_page, written_file, added_regions, without_code, new_image}
 use Rattle.rz_elf.specs.Room.{parts_end, parts_size}
-use Rattle.rz_elf.proofs.Accepted.{IsGoodLoad, IsPast, IsHeaded, executable_header, file_good, sound_where_good}
-use Rattle.rz_elf.proofs.Conditions.{NoneHolds, first_of_none, NoneHolds-append}
-use Rattle.rz_elf.proofs.Sound.{IsSound, faultless_where_sound}
+use Rattle.rz_elf.specs.Laws.Accepted.{IsGoodLoad, IsPast, IsHeaded, executable_header, file_good, sound_where_good}
+use Rattle.rz_elf.specs.Laws.Conditions.{NoneHolds, first_of_none, NoneHolds-append}
+use Rattle.rz_elf.specs.Laws.Sound.{IsSound, faultless_where_sound}
 use Rattle.rz_elfw.proofs.HeaderBytes.{IsEncodable, bytes_on, paged_header, paged_magic, paged_class, paged_order, paged_version, paged_segments, paged_rest, length-paged}
 use Rattle.rz_elfw.proofs.NewHeaders.{later_load, moved_load, load_first, kept_sound, kept_encodable, loads_kept}
 use Rattle.rz_elfw.proofs.Original.{kept_of, short, sound_headers}

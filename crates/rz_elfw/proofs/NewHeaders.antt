@@ -9,7 +9,7 @@ use Rattle.rz_elf.specs.declared.placed.Placed.{Placed}
 use Rattle.rz_elf.specs.Elf.{segment_of, segments_of, is_load, is_stack, placed_from, against, is_stack_code, has_other_flags, is_writable_code, is_larger_in_file, leaves_file, is_misaligned, is_far, isnt_above, shares_page, page, last_page}
 use Rattle.rz_elf.specs.AddedRange.{page_floor}
 use Rattle.rz_elf.specs.WrittenFile.{moved, without_execute}
-use Rattle.rz_elf.proofs.Sound.{IsSound, IsSoundLoad, sound_load}
+use Rattle.rz_elf.specs.Laws.Sound.{IsSound, IsSoundLoad, sound_load}
 use Rattle.rz_elfw.proofs.Alignment.{aligned_on, lesser_power}
 use Rattle.rz_elfw.proofs.HeaderBytes.{AreBytes, IsEncodable, bytes_on, encodable_read}
 use Rattle.rz_elfw.proofs.Original.{is_kept, kept_of, kept_cons}

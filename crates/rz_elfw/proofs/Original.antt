@@ -7,9 +7,9 @@ use Rattle.rz_elf.specs.declared.segment.Segment.{Segment}
 use Rattle.rz_elf.specs.declared.placed.Placed.{Placed}
 use Rattle.rz_elf.specs.Elf.{segment_of, segments_of, segments, file_header, is_load, is_stack, placed_from, file_conditions, fault_of}
 use Rattle.rz_elf.specs.WrittenFile.{moved}
-use Rattle.rz_elf.proofs.Conditions.{none_holds}
-use Rattle.rz_elf.proofs.Reading.{file_faultless, headers_faultless, table_fits, few_headers}
-use Rattle.rz_elf.proofs.Sound.{IsSound, sound, sound_load}
+use Rattle.rz_elf.specs.Laws.Conditions.{none_holds}
+use Rattle.rz_elf.specs.Laws.Reading.{file_faultless, headers_faultless, table_fits, few_headers}
+use Rattle.rz_elf.specs.Laws.Sound.{IsSound, sound, sound_load}
 
 -- whether a program header is kept, and what is kept of some
 abbrev pub is_kept : Segment → Bool

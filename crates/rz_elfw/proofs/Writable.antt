@@ -13,10 +13,10 @@ use Rattle.rz_elf.specs.Loaded.{is_load_header}
 use Rattle.rz_elf.specs.AddedRange.{lowest, page_floor}
 use Rattle.rz_elf.specs.WrittenFile.{Parts, kept_segments}
 use Rattle.rz_elf.specs.Room.{extent_of, no_room, parts_end, parts_size, ArePages, IsInCode}
-use Rattle.rz_elf.proofs.Conditions.{none_holds}
-use Rattle.rz_elf.proofs.HeaderList.{loads_placed}
-use Rattle.rz_elf.proofs.Reading.{accepted_loads, loads_faultless}
-use Rattle.rz_elf.proofs.Sound.{IsSoundLoad}
+use Rattle.rz_elf.specs.Laws.Conditions.{none_holds}
+use Rattle.rz_elf.specs.Laws.HeaderList.{loads_placed}
+use Rattle.rz_elf.specs.Laws.Reading.{accepted_loads, loads_faultless}
+use Rattle.rz_elf.specs.Laws.Sound.{IsSoundLoad}
 use Rattle.rz_elfw.proofs.HeaderBytes.{AreBytes}
 
 -- what a file is written for

@@ -1,7 +1,7 @@
 use Rattle.std.proofs.Common.{ℕ, ◌≡◌, List, [], ◌∷◌, ◌++◌, true}
 use Rattle.std.specs.Prelude.{nat_lt}
 use Rattle.rz_isa.specs.declared.rows.Row.{Row}
-use Rattle.rz_isa.specs.Number.{are_bytes}
+use Rattle.rz_num.specs.Bytes.{are_bytes}
 use Rattle.rz_isa.specs.Spells.{RowSpells}
 use Rattle.rz_isa.proofs.Choice.{canonical_spells}
 use Rattle.rz_isa.proofs.Tests.{and_parts, and_both}

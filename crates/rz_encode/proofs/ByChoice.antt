@@ -12,7 +12,8 @@ use Rattle.rz_isa.proofs.Inverse.{found_builds}
 use Rattle.rz_isa.proofs.Tests.{passed, through}
 use Rattle.rz_encode.specs.declared.choose.Choice.{Choice}
 use Rattle.rz_encode.specs.Calls.Choose.{served, IsGood}
-use Rattle.rz_encode.specs.Length.{spelled_count, chosen_len}
+use Rattle.rz_encode.specs.Calls.Length.{spelled_count}
+use Rattle.rz_encode.specs.Length.{chosen_len}
 use Rattle.rz_encode.proofs.Counted.{count_is}
 
 -- what serves can have its fields

@@ -19,7 +19,7 @@ use Rattle.rz_isa.proofs.Again.{had_of}
 use Rattle.rz_isa.proofs.Read.{little_length}
 use Rattle.rz_isa.proofs.Inverse.{regular_of}
 use Rattle.rz_isa.proofs.Whole.{opcode_read, length_of, spelled_for}
-use Rattle.rz_encode.specs.Length.{one_if, escape_count, disp_count, head_count, memory_count, place_count, rm_count, spelled_count}
+use Rattle.rz_encode.specs.Calls.Length.{one_if, escape_count, disp_count, head_count, memory_count, place_count, rm_count, spelled_count}
 use Rattle.rz_encode.proofs.Written.{Pieces, pieces_same}
 
 -- ---- what is known of a regular row and its fields

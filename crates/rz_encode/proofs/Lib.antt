@@ -4,3 +4,4 @@ pub mod Counted
 pub mod Tried
 pub mod ByChoice
 pub mod Backward
+pub mod Lengths

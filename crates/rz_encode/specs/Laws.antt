@@ -3,7 +3,7 @@ use Rattle.rz_isa.specs.declared.decoding.Decoded.TheVariants as decodeds
 use Rattle.rz_isa.specs.declared.rows.Row.{Row}
 use Rattle.rz_isa.specs.declared.rows.Form.{Form}
 use Rattle.rz_isa.specs.declared.instruction.Insn.{Insn}
-use Rattle.rz_isa.specs.Number.{are_bytes}
+use Rattle.rz_num.specs.Bytes.{are_bytes}
 use Rattle.rz_isa.specs.Canonical.{canonical}
 use Rattle.rz_isa.specs.Decoded.{decoded}
 

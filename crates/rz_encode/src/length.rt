@@ -1,5 +1,5 @@
 ghost use Rattle.std.specs.Prelude.{◌≡◌, ◌≤◌};
-ghost use Rattle.rz_encode.specs.Length.{one_if as one_if_of, escape_count as escape_count_of, disp_count as disp_count_of, head_count as head_count_of, memory_count as memory_count_of, place_count as place_count_of, rm_count as rm_count_of, spelled_count as spelled_count_of};
+ghost use Rattle.rz_encode.specs.Calls.Length.{one_if as one_if_of, escape_count as escape_count_of, disp_count as disp_count_of, head_count as head_count_of, memory_count as memory_count_of, place_count as place_count_of, rm_count as rm_count_of, spelled_count as spelled_count_of};
 
 use crate::spelling::{is_half, mode_of, repeat_prefix};
 use rz_isa::having::needs_rex;

@@ -1,4 +1,5 @@
-use Rattle.std.specs.Prelude.{ℕ, ◌/◌, ◌%◌, Bool, true, false, not, ◌||◌, ◌==◌, List, [], ◌∷◌, slice_get, unwrap_or}
+use Rattle.std.specs.Prelude.{ℕ, ◌/◌, ◌%◌, Bool, false, ◌||◌, ◌==◌, List, [], ◌∷◌, slice_get, unwrap_or}
+use Rattle.rz_num.specs.Signs.{differ}
 use Rattle.rz_flags.specs.declared.Flags.{Flags}
 use Rattle.rz_flags.specs.declared.Cond.{Cond}
 use Rattle.rz_flags.specs.declared.Cond.TheVariants.{O, NO, B, AE, E, NE, BE, A, S, NS, P, NP, L, GE, LE, G}
@@ -28,10 +29,6 @@ number_of L = 12
 number_of GE = 13
 number_of LE = 14
 number_of G = 15
-
-abbrev pub differ : Bool → Bool → Bool
-differ true b = not b
-differ false b = b
 
 -- the eight tests, in the order of the numbers halved: the condition of an even number is one of them, and that of the
 -- odd number after it is its negation

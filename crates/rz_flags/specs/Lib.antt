@@ -1,4 +1,3 @@
 pub mod Cond
-pub mod CondLaws
 pub mod Laws
 pub mod Word

@@ -1,9 +1,4 @@
-pub mod Cells
-pub mod FindLaws
-pub mod MemoryTurns
 pub mod OpenLaws
 pub mod PermLaws
 pub mod PutLaws
-pub mod RunLaws
 pub mod WordLaws
-pub mod Zeros

@@ -6,8 +6,8 @@ use Rattle.std.proofs.lemmas.Bool.Decides.{nat_tests}
 use Rattle.rz_image.specs.declared.region.Region.{Region}
 use Rattle.rz_image.specs.Perm.{writes}
 use Rattle.rz_image.specs.Memory.{Regions, AscendFrom, Ascend, contains, cell_in, cell_at, wrap, put_in, put_byte, put_bytes}
-use Rattle.rz_image.proofs.Cells.{apart, inside}
-use Rattle.rz_image.proofs.FindLaws.{fits_at}
+use Rattle.rz_image.specs.Laws.Cells.{apart, inside}
+use Rattle.rz_image.specs.Laws.Find.{fits_at}
 
 -- a byte that was put changes no place and no length
 put_keeps : (w : Bool) (r : Region) (k b : ℕ) (P : ℕ → ℕ → ℕ → Type 0) → P r.base (length r.bytes) r.opened → P (if w then record r { bytes = set r.bytes k b } else r).base (length (if w then record r { bytes = set r.bytes k b } else r).bytes) (if w then record r { bytes = set r.bytes k b } else r).opened

@@ -7,7 +7,7 @@ use Rattle.rz_num.specs.declared.width.Width.{Width}
 use Rattle.rz_num.specs.declared.width.Width.TheVariants.{W8, W16, W32, W64}
 use Rattle.rz_image.specs.Memory.{Regions, bytes_at}
 use Rattle.rz_image.specs.Word.{byte_count}
-use Rattle.rz_image.proofs.RunLaws.{bytes_split, length-bytes_at}
+use Rattle.rz_image.specs.Laws.Run.{bytes_split, length-bytes_at}
 
 -- a word reads no byte past its own
 pub number_of_front : (n : ℕ) (bs : List ℕ) → little_number n (take n bs) ≡ little_number n bs

@@ -2,4 +2,5 @@ pub mod Perm
 pub mod Memory
 pub mod Run
 pub mod Word
+pub mod Calls
 pub mod Laws

@@ -1,14 +1,13 @@
 //! The memory of a run.
 
-ghost use Rattle.std.specs.Prelude.{◌≡◌, ◌+◌, ◌^◌, ◌<◌, ◌≤◌, length, take, nat_le, IsTrue, IfOk, IfErr, OnOk, OnErr, Some, None};
-ghost use Rattle.byteorder.specs.Endian.{little_number, little_bytes};
+ghost use Rattle.std.specs.Prelude.{◌≡◌, ◌+◌, ◌^◌, ◌<◌, ◌≤◌, length, take, nat_le, false, IsTrue, IfOk, IfErr, OnOk, OnErr, Some, None};
 ghost use Rattle.rz_image.specs.Memory.{Ascend, bytes_at, bytes_in, fetch as fetch_at, is_allowed, is_readable, is_writable, put_bytes, refused, reopened, set_open as opened_to};
-ghost use Rattle.rz_image.specs.Word.{byte_count};
+ghost use Rattle.rz_image.specs.Word.{put_word, refused_word, word_at};
 
 use crate::access::Access;
 use crate::region::{Region, Touch};
 use crate::runs::{all_allow, copy, fetch};
-use crate::words::{load, store};
+use crate::words::{load, load_run, put_run, store};
 use rz_num::{Bytes, OutOfMemory, Width};
 use std::alloc::Global;
 use std::marker::Model;
@@ -43,9 +42,9 @@ impl Memory {
     /// The word at an address, the low byte first; addresses wrap at 2^64. It refuses exactly where a byte may not
     /// be read, with the first such address in the order of the access.
     pub fn load(&self, at: u64, width: Width) -> Result<u64, Touch>
-        ensures value { IfOk result (λ word. word ≡ little_number (byte_count width) (bytes_at self.now at (byte_count width))) }
-        ensures allowed { IfOk result (λ word. refused is_readable self.now at (byte_count width) ≡ None) }
-        ensures touch { IfErr result (λ touch. refused is_readable self.now at (byte_count width) ≡ Some touch.address) }
+        ensures value { IfOk result (λ word. word ≡ word_at self.now at width) }
+        ensures allowed { IfOk result (λ word. refused_word is_readable self.now at width ≡ None) }
+        ensures touch { IfErr result (λ touch. refused_word is_readable self.now at width ≡ Some touch.address) }
     {
         load(self.regions.as_slice(), at, width)
     }
@@ -54,12 +53,32 @@ impl Memory {
     /// It refuses exactly where a byte may not be written, with the first such address in the order of the access;
     /// then nothing is changed.
     pub fn store(&mut self, at: u64, width: Width, value: u64) -> Result<(), Touch>
-        ensures stored { OnOk result (self.new ≡ put_bytes self.old at (little_bytes (byte_count width) value)) }
-        ensures allowed { OnOk result (refused is_writable self.old at (byte_count width) ≡ None) }
-        ensures touch { IfErr result (λ touch. refused is_writable self.old at (byte_count width) ≡ Some touch.address) }
+        ensures stored { OnOk result (self.new ≡ put_word self.old at width value) }
+        ensures allowed { OnOk result (refused_word is_writable self.old at width ≡ None) }
+        ensures touch { IfErr result (λ touch. refused_word is_writable self.old at width ≡ Some touch.address) }
         ensures unchanged { OnErr result (self.new ≡ self.old) }
     {
         store(self.regions.as_mut_slice(), at, width, value)
+    }
+
+    /// Fills `out` with the bytes from an address on, where one region has them all and lets them be read, and says
+    /// whether it did.
+    pub fn load_run(&self, at: u64, out: &mut [u8]) -> bool
+        ensures done { IsTrue result → out.new ≡ bytes_at self.now at (length out.old) }
+        ensures allowed { IsTrue result → refused is_readable self.now at (length out.old) ≡ None }
+    {
+        load_run(self.regions.as_slice(), at, out)
+    }
+
+    /// Writes bytes from an address on, where one region has them all and lets them be written, and says whether it
+    /// did; else nothing is changed. There is one byte at least.
+    pub fn store_run(&mut self, at: u64, bytes: &[u8]) -> bool
+        requires { 0 < length bytes.now }
+        ensures stored { IsTrue result → self.new ≡ put_bytes self.old at bytes.now }
+        ensures allowed { IsTrue result → refused is_writable self.old at (length bytes.now) ≡ None }
+        ensures unchanged { result ≡ false → self.new ≡ self.old }
+    {
+        put_run(self.regions.as_mut_slice(), at, bytes)
     }
 
     /// The executable bytes at an address, up to the first that isn't, and at most 15: how many there are.

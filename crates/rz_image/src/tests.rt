@@ -1,7 +1,7 @@
 // What no clause says: worked accesses, and that the calls that take memory succeed.
 
-ghost use Rattle.std.specs.Prelude.{◌≡◌, [], ◌∷◌, IfOk};
-ghost use Rattle.rz_image.specs.Perm.{read_execute, read_write};
+ghost use Rattle.std.specs.Prelude.{◌≡◌, IfOk};
+ghost use Rattle.rz_image.specs.Calls.Worked.{code_and_data};
 
 use crate::memory::Memory;
 use crate::perm::Perm;
@@ -12,7 +12,7 @@ use std::test::Fail;
 
 // Four bytes of code at 0x1000, and behind them four of which two are open, to read and to write.
 fn two_regions(alloc: Global) -> Result<Memory, OutOfMemory>
-    ensures { IfOk result (λ m. m ≡ record { base = 0x1000; bytes = 1 ∷ 2 ∷ 3 ∷ 4 ∷ []; opened = 4; perm = read_execute } ∷ record { base = 0x1004; bytes = 5 ∷ 6 ∷ 0 ∷ 0 ∷ []; opened = 2; perm = read_write } ∷ []) }
+    ensures { IfOk result (λ m. m ≡ code_and_data) }
 {
     let mut regions = Vec::new(alloc);
     regions.push(Region {

@@ -1,10 +1,10 @@
 // Words in memory, the low byte first (Intel SDM, volume 1, section 1.3.1).
 
 ghost use Rattle.std.specs.Prelude.{◌≡◌, ◌≢◌, ℕ, ◌+◌, ◌^◌, ◌<◌, ◌≤◌, true, false, List, length, take, drop, IsTrue, IfOk, IfErr, OnOk, OnErr, Option, Some, None};
-ghost use Rattle.byteorder.specs.Endian.{little_number, little_bytes};
+ghost use Rattle.byteorder.specs.Endian.{little_number};
 ghost use Rattle.rz_image.specs.Memory.{Ascend, cell_at, bytes_at, put_byte, put_bytes, refused as refused_at, is_readable, is_writable};
 ghost use Rattle.rz_image.specs.Run.{allows};
-ghost use Rattle.rz_image.specs.Word.{byte_count as byte_count_of};
+ghost use Rattle.rz_image.specs.Word.{byte_count as byte_count_of, put_word, refused_word, word_at};
 
 use crate::access::Access;
 use crate::find::region_at;
@@ -15,9 +15,9 @@ use rz_num::{Width, get_u16, get_u32, get_u64, put_u64};
 /// The word at an address, or the first address that may not be read.
 pub fn load(regions: &[Region], at: u64, width: Width) -> Result<u64, Touch>
     requires { Ascend regions.now }
-    ensures value { IfOk result (λ word. word ≡ little_number (byte_count_of width) (bytes_at regions.now at (byte_count_of width))) }
-    ensures allowed { IfOk result (λ word. refused_at is_readable regions.now at (byte_count_of width) ≡ None) }
-    ensures touch { IfErr result (λ touch. refused_at is_readable regions.now at (byte_count_of width) ≡ Some touch.address) }
+    ensures value { IfOk result (λ word. word ≡ word_at regions.now at width) }
+    ensures allowed { IfOk result (λ word. refused_word is_readable regions.now at width ≡ None) }
+    ensures touch { IfErr result (λ touch. refused_word is_readable regions.now at width ≡ Some touch.address) }
 {
     let run = run_at(regions, at, Access::Read);
     if run.len() >= byte_count(width) {
@@ -32,10 +32,10 @@ pub fn load(regions: &[Region], at: u64, width: Width) -> Result<u64, Touch>
 /// Writes a word at an address, or changes nothing and names the first address that may not be written.
 pub fn store(regions: &mut [Region], at: u64, width: Width, value: u64) -> Result<(), Touch>
     requires { Ascend regions.old }
-    ensures stored { OnOk result (regions.new ≡ put_bytes regions.old at (little_bytes (byte_count_of width) value)) }
-    ensures allowed { OnOk result (refused_at is_writable regions.old at (byte_count_of width) ≡ None) }
+    ensures stored { OnOk result (regions.new ≡ put_word regions.old at width value) }
+    ensures allowed { OnOk result (refused_word is_writable regions.old at width ≡ None) }
     ensures unchanged { OnErr result (regions.new ≡ regions.old) }
-    ensures touch { IfErr result (λ touch. refused_at is_writable regions.old at (byte_count_of width) ≡ Some touch.address) }
+    ensures touch { IfErr result (λ touch. refused_word is_writable regions.old at width ≡ Some touch.address) }
     ensures ascend { Ascend regions.new }
 {
     let mut word = [0; 8];
@@ -49,6 +49,20 @@ pub fn store(regions: &mut [Region], at: u64, width: Width, value: u64) -> Resul
     }
     put_each(regions, at, bytes);
     Ok(())
+}
+
+/// Fills `out` with the bytes from an address on where one region opens them all, and says whether it did.
+pub fn load_run(regions: &[Region], at: u64, out: &mut [u8]) -> bool
+    requires { Ascend regions.now }
+    ensures done { IsTrue result → out.new ≡ bytes_at regions.now at (length out.old) }
+    ensures allowed { IsTrue result → refused_at is_readable regions.now at (length out.old) ≡ None }
+{
+    let run = run_at(regions, at, Access::Read);
+    if run.len() < out.len() {
+        return false;
+    }
+    out.copy_from_slice(&run[..out.len()]);
+    true
 }
 
 fn byte_count(width: Width) -> usize
@@ -101,8 +115,8 @@ fn bytes_from(regions: &[Region], at: u64) -> [u8; 8]
     bytes
 }
 
-// Writes bytes where one region opens them all, and says whether it did.
-fn put_run(regions: &mut [Region], at: u64, bytes: &[u8]) -> bool
+/// Writes bytes where one region opens them all, and says whether it did.
+pub fn put_run(regions: &mut [Region], at: u64, bytes: &[u8]) -> bool
     requires ascend { Ascend regions.old }
     requires some { 0 < length bytes.now }
     ensures done { IsTrue result → regions.new ≡ put_bytes regions.old at bytes.now }

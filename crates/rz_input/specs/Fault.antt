@@ -17,9 +17,13 @@ fault_behind args n (Some (Arg arg)) = if nat_lt 65536 (length (strings (args ++
 fault_behind args n (Some (Stdin bytes)) = None
 fault_behind args n (Some (Reply reply)) = None
 
+-- the fault of line n of this text behind the arguments of earlier lines
+abbrev pub line_fault : List (List ℕ) → ℕ → List ℕ → Option InputError
+line_fault args n text = fault_behind args n (entry_of (words text))
+
 -- the fault of a line behind earlier ones
 abbrev pub fault_of_line : List Line → Line → Option InputError
-fault_of_line earlier line = fault_behind (input_from (entries earlier)).args line.0 (entry_of (words line.1))
+fault_of_line earlier line = line_fault (input_from (entries earlier)).args line.0 line.1
 
 -- the first fault of a text
 abbrev pub fault_of : List ℕ → Option InputError

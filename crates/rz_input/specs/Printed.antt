@@ -1,11 +1,12 @@
 -- The text of an input: the arguments, then the bytes of the standard input, 32 on a line, then the replies.
-use Rattle.std.specs.Prelude.{◌≡◌, None, ℕ, zero, suc, false, List, [], ◌∷◌, ◌++◌, codes, drop, flat_map, length, map, take}
+use Rattle.std.specs.Prelude.{◌≡◌, ◌≤◌, None, ℕ, zero, suc, false, List, [], ◌∷◌, ◌++◌, codes, drop, flat_map, length, map, take}
 use Rattle.std.specs.List.{join_with_byte}
 use Rattle.std.specs.Fmt.{digits}
 use Rattle.hex.specs.Hex.{encode_lower}
 use Rattle.rz_sys.specs.declared.input.Input.{Input}
 use Rattle.rz_sys.specs.declared.input.Reply.{Reply as ReplyOf}
 use Rattle.rz_sys.specs.declared.input.Reply.TheVariants.{Full, AtMost, Error}
+use Rattle.rz_sys.specs.Input.{IsValid}
 use Rattle.rz_input.specs.Fault.{fault_of}
 use Rattle.rz_input.specs.Value.{input_of}
 use Rattle.rz_input.specs.declared.entry.Entry.{Entry}
@@ -53,3 +54,7 @@ printed input = flat_map ended_line (printed_entries input)
 pub record IsReadAs (text : List ℕ) (input : Input) : Type 0 where
   pub sound : fault_of text ≡ None
   pub value : input_of text ≡ input
+
+-- a valid input is read back from its text, where that is no longer than an input file may be
+abbrev pub ReadsBack : List ℕ → Input → Type 0
+ReadsBack text input = IsValid input → length text ≤ 16777216 → IsReadAs text input

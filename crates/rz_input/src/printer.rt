@@ -1,12 +1,11 @@
 // Printing inputs.
 
-ghost use Rattle.std.specs.Prelude.{◌≡◌, ◌≤◌, ◌++◌, OnOk, IfOk, length, flat_map};
+ghost use Rattle.std.specs.Prelude.{◌≡◌, ◌++◌, OnOk, IfOk};
 ghost use Rattle.std.specs.List.{AllByRecursion};
 ghost use Rattle.hex.specs.Hex.{encode_lower};
-ghost use Rattle.rz_sys.specs.Input.{IsValid};
 ghost use Rattle.rz_input.specs.declared.entry.Entry.TheVariants as entry;
-ghost use Rattle.rz_input.specs.Calls.Printing.{HasWord};
-ghost use Rattle.rz_input.specs.Printed.{IsReadAs, ended_line, pieces, printed};
+ghost use Rattle.rz_input.specs.Calls.Printing.{HasWord, arg_lines, reply_lines, stdin_lines};
+ghost use Rattle.rz_input.specs.Printed.{ReadsBack, ended_line, printed};
 
 use rz_num::{Bytes, OutOfMemory};
 use rz_sys::input::{Input, Replies, Reply};
@@ -19,7 +18,7 @@ const LINE_BYTES: usize = 32;
 /// It refuses for want of memory alone.
 pub fn print_input(alloc: Global, input: &Input) -> Result<Bytes, OutOfMemory>
     ensures text { IfOk result (λ text. text ≡ printed input.now) }
-    ensures read_back { IfOk result (λ text. IsValid input.now → length text ≤ 16777216 → IsReadAs text input.now) }
+    ensures read_back { IfOk result (λ text. ReadsBack text input.now) }
 {
     let mut text = Bytes::new(alloc);
     print_args(alloc, &mut text, input.args.as_slice())?;
@@ -30,7 +29,7 @@ pub fn print_input(alloc: Global, input: &Input) -> Result<Bytes, OutOfMemory>
 
 // Prints a line for each argument.
 fn print_args(alloc: Global, text: &mut Bytes, args: &[Bytes]) -> Result<(), OutOfMemory>
-    ensures { OnOk result (text.new ≡ text.old ++ flat_map (λ arg. ended_line (entry.Arg arg)) args.now) }
+    ensures { OnOk result (text.new ≡ text.old ++ arg_lines args.now) }
 {
     for arg in args {
         print_arg(alloc, text, arg.as_slice())?;
@@ -51,7 +50,7 @@ fn print_arg(alloc: Global, text: &mut Bytes, arg: &[u8]) -> Result<(), OutOfMem
 
 // Prints the bytes of the standard input, 32 on a line.
 fn print_stdin(alloc: Global, text: &mut Bytes, bytes: &[u8]) -> Result<(), OutOfMemory>
-    ensures { OnOk result (text.new ≡ text.old ++ flat_map (λ piece. ended_line (entry.Stdin piece)) (pieces bytes.now)) }
+    ensures { OnOk result (text.new ≡ text.old ++ stdin_lines bytes.now) }
 {
     for piece in bytes.chunks(LINE_BYTES) {
         print_piece(alloc, text, piece)?;
@@ -69,7 +68,7 @@ fn print_piece(alloc: Global, text: &mut Bytes, piece: &[u8]) -> Result<(), OutO
 
 // Prints a line for each reply.
 fn print_replies(alloc: Global, text: &mut Bytes, replies: &Replies) -> Result<(), OutOfMemory>
-    ensures text { OnOk result (text.new ≡ text.old ++ flat_map (λ reply. ended_line (entry.Reply reply)) replies.now) }
+    ensures text { OnOk result (text.new ≡ text.old ++ reply_lines replies.now) }
     ensures words { OnOk result (AllByRecursion HasWord replies.now) }
 {
     for reply in replies.iter() {

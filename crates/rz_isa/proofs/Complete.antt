@@ -12,7 +12,8 @@ use Rattle.rz_isa.specs.declared.rows.Letter.TheVariants as letters
 use Rattle.rz_isa.specs.declared.rows.Op.TheVariants as ops
 use Rattle.rz_isa.specs.declared.instruction.Reg.TheVariants as regs
 use Rattle.rz_isa.specs.declared.instruction.Place.TheVariants as places
-use Rattle.rz_isa.specs.Number.{are_bytes, number, numbers, extended, displaced_by}
+use Rattle.rz_num.specs.Bytes.{are_bytes}
+use Rattle.rz_isa.specs.Number.{number, numbers, extended, displaced_by}
 use Rattle.rz_isa.specs.Spelling.{Parts, Fits, bit_w, bit_r, bit_x, bit_b, is_met, w_demand, b_demand, disp_len, rm_len, second, rm_fits, width_of, width_at, imm_len, times}
 use Rattle.rz_isa.specs.Fields.{reg_of, index_of, base_of, sib_mem, base_mem, behind_one, place_of, rm_place, rm_width, reg_field, reg_number, imm_of, repeat_in, rep_of, fields}
 use Rattle.rz_isa.specs.Having.{is_wide, has_width, code_of, is_register, is_first, is_high, is_low_byte, in_reg_field, in_opcode, is_number, is_index, is_memory, names_register, names_memory, has_place, has_cond, has_imm, is_repeat, has_rep, w_needed, x_needed, place_b, b_needed, rex_needed, low_byte_place, high_place, number_in, needs_rex, bars_rex, opcode_of, can_have}

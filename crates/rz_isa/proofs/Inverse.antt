@@ -69,13 +69,13 @@ imm_small_of ops.Ret (Some imms.Iw) w n s h = grind (arith, nat_tests)
 imm_small_of ops.Ret _ w n s h = absurd (cc)
 imm_small_of _ k w n s h = tt
 
-exchange_place : (op : Op) (m : OpMap) (r : Option RmRule) (span : ℕ) → not (is_some (b_demand op m 0x90) && is_some r) ≡ true → (not (is_exchange op) || span == 8) ≡ true
+pub exchange_place : (op : Op) (m : OpMap) (r : Option RmRule) (span : ℕ) → not (is_some (b_demand op m 0x90) && is_some r) ≡ true → (not (is_exchange op) || span == 8) ≡ true
     → is_exchange op ≡ true → in_opcode r span ≡ true
 exchange_place (ops.Xchg letters.O letters.A) m None span d x e = x
 exchange_place (ops.Xchg letters.O letters.A) m (Some r) span d x e = absurd (cc)
 exchange_place _ m r span d x e = absurd (cc)
 
-narrow : (a b : Bool) → a ≡ true → not (a && b) ≡ true → b ≡ false
+pub narrow : (a b : Bool) → a ≡ true → not (a && b) ≡ true → b ≡ false
 narrow a b e h = grind arith
 
 -- ---- what is found builds the instruction, and what builds it is found

@@ -17,3 +17,4 @@ pub mod Whole
 pub mod Choice
 pub mod Served
 pub mod Targeted
+pub mod Elsewhere

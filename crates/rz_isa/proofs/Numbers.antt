@@ -6,7 +6,8 @@ use Rattle.std.proofs.lemmas.Int.{ints}
 use Rattle.std.proofs.Math.Nat.{pow-succ'}
 use Rattle.rz_isa.proofs.Types.{Width, W8, W16, W32, W64}
 use Rattle.rz_num.specs.Width.{size}
-use Rattle.rz_isa.specs.Number.{are_bytes, number, numbers, is_positive, signed, extended}
+use Rattle.rz_num.specs.Bytes.{are_bytes}
+use Rattle.rz_isa.specs.Number.{number, numbers, is_positive, signed, extended}
 use Rattle.rz_isa.specs.Spelling.{full_len}
 use Rattle.rz_isa.specs.Having.{is_disp, is_extended}
 

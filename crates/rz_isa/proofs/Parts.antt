@@ -8,7 +8,7 @@ use Rattle.rz_isa.specs.declared.rows.Size.TheVariants as sizes
 use Rattle.rz_isa.specs.declared.rows.RmRule.TheVariants as rules
 use Rattle.rz_isa.specs.declared.instruction.Reg.TheVariants as regs
 use Rattle.rz_isa.specs.declared.instruction.Place.TheVariants as places
-use Rattle.rz_isa.specs.Number.{are_bytes}
+use Rattle.rz_num.specs.Bytes.{are_bytes}
 use Rattle.rz_isa.specs.Spelling.{times, most_66, takes_66, prefixes_fit, f3_demand, is_rex, rex_fits, bit_w, bit_r, bit_x, bit_b, is_met, w_demand, rm_fits, rule_fits, width_of}
 use Rattle.rz_isa.specs.Fields.{reg_of, place_of, rm_place, rm_width, reg_field, reg_number, repeat_in, rep_of}
 use Rattle.rz_isa.specs.Having.{is_wide, is_half, has_width, code_of, is_register, is_first, is_high, is_low_byte, in_reg_field, in_opcode, has_reg, is_number, is_index, is_disp, names_register, names_memory, is_first_place, has_place, is_repeat, has_rep, number_in, w_needed, r_needed, x_needed, place_b, b_needed, rex_needed, low_byte_place, high_place, needs_rex}

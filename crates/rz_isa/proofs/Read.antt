@@ -1,7 +1,8 @@
 use Rattle.std.proofs.Common.{ℕ, zero, suc, ℤ, pos, negsuc, ◌≡◌, ◌≢◌, ◌+◌, ◌-◌, ◌*◌, ◌/◌, ◌%◌, ◌^◌, ◌<◌, ◌==◌, ◌-ℤ◌, refl, ap, ◌∙◌, arith, List, length, Bool, true, false, not, ◌&&◌}
 use Rattle.std.specs.Prelude.{nat_lt, if◌then◌else◌}
 use Rattle.std.proofs.lemmas.Bool.Decides.{nat_tests}
-use Rattle.rz_isa.specs.Number.{are_bytes, number, numbers, signed, extended, displaced_by}
+use Rattle.rz_num.specs.Bytes.{are_bytes}
+use Rattle.rz_isa.specs.Number.{number, numbers, signed, extended, displaced_by}
 use Rattle.rz_isa.specs.Having.{is_disp, is_extended}
 use Rattle.rz_isa.specs.Canonical.{little, low_32, offset, is_zero, is_small, mode_of, disp_bytes}
 use Rattle.rz_isa.proofs.Numbers.{minus_is}

@@ -132,16 +132,20 @@ imm_missed q x g e miss = ap (λ o. is_some (option_and_then (if_can q) o)) e �
 
 -- ---- the spelling and its length
 
-pub spelled : (rows : List Row) (x : Insn) (at : ℕ) (form : Form) (k : ℕ) (row : Row) (g : Fields) (n : ℕ) → Serves rows form x k row → same_form row.form form ≡ true → found_in row.op x (least row) ≡ Some g → Had row g
-    → length_for row g ≡ n → reaches row g ((at + n) % 2 ^ 64) ≡ true → HasSpelling rows x at form n
-spelled rows x at form k row g n s same e had len near =
+pub spelled_as : (rows : List Row) (x : Insn) (at : ℕ) (form : Form) (k : ℕ) (row : Row) (g : Fields) (next : ℕ) → Serves rows form x k row → same_form row.form form ≡ true → found_in row.op x (least row) ≡ Some g → Had row g
+    → (at + length_for row g) % 2 ^ 64 ≡ next → reaches row g next ≡ true → canonical rows x at form ≡ Some (bytes_of row (parts_for row g next))
+spelled_as rows x at form k row g next s same e had en near =
     let f = passed (none_below (serves_by (λ q. found q x) form) rows k) (slice_get rows k) row s in
     let is_found : found row x ≡ Some g = ap (option_and_then (if_can row)) e ∙ ap (λ b. if b then Some g else None) (can_of row g had) in
     let c = chosen_at (λ q. found q x) rows form k row g f.1 f.0 same is_found in
-    let next = (at + length_for row g) % 2 ^ 64 in
-    let near_next : reaches row g next ≡ true = subst (λ m. reaches row g ((at + m) % 2 ^ 64) ≡ true) (sym len) near in
-    let e : canonical rows x at form ≡ Some (bytes_of row (parts_for row g next)) = ap (spelled_at at) c ∙ ap (λ b. if b then Some (bytes_of row (parts_for row g next)) else None) near_next in
-    subst (λ o. IsSomeAnd o (λ bs. length bs ≡ n)) (sym e) (length_is row g next 0 ∙ len)
+    ap (spelled_at at) c ∙ (ap (λ m. if reaches row g m then Some (bytes_of row (parts_for row g m)) else None) en ∙ ap (λ b. if b then Some (bytes_of row (parts_for row g next)) else None) near)
+
+pub spelled : (rows : List Row) (x : Insn) (at : ℕ) (form : Form) (k : ℕ) (row : Row) (g : Fields) (n : ℕ) → Serves rows form x k row → same_form row.form form ≡ true → found_in row.op x (least row) ≡ Some g → Had row g
+    → length_for row g ≡ n → reaches row g ((at + n) % 2 ^ 64) ≡ true → HasSpelling rows x at form n
+spelled rows x at form k row g n s same e had len near =
+    let next = (at + n) % 2 ^ 64 in
+    let is_next : (at + length_for row g) % 2 ^ 64 ≡ next = ap (λ m. (at + m) % 2 ^ 64) len in
+    subst (λ o. IsSomeAnd o (λ bs. length bs ≡ n)) (sym (spelled_as rows x at form k row g next s same e had is_next near)) (length_is row g next 0 ∙ len)
 
 some_within : (o : Option (List ℕ)) (m n : ℕ) → m ≤ n → IsSomeAnd o (λ s. length s ≡ m) → IsSomeAnd o (λ s. length s ≤ n)
 some_within None m n le h = h
@@ -374,6 +378,12 @@ emits_jmp_short rows k t at s lt h = spelled rows _ at forms.Short k (lone_row m
 pub emits_bare : (rows : List Row) (x : Insn) (k at n : ℕ) (row : Row) → Serves rows forms.Near x k row → same_form row.form forms.Near ≡ true → found_in row.op x (least row) ≡ Some (least row) → can_have row (least row) ≡ true
     → length_for row (least row) ≡ n → ((next : ℕ) → reaches row (least row) next ≡ true) → HasSpelling rows x at forms.Near n
 emits_bare rows x k at n row s same e can len near = spelled rows x at forms.Near k row (least row) n s same e (had_of row (least row) can) len (near _)
+
+-- and its bytes, where no address counts
+pub emits_bytes : (rows : List Row) (x : Insn) (k at : ℕ) (row : Row) (bs : List ℕ) → Serves rows forms.Near x k row → same_form row.form forms.Near ≡ true → found_in row.op x (least row) ≡ Some (least row) → can_have row (least row) ≡ true
+    → ((next : ℕ) → reaches row (least row) next ≡ true) → ((next : ℕ) → bytes_of row (parts_for row (least row) next) ≡ bs) → canonical rows x at forms.Near ≡ Some bs
+emits_bytes rows x k at row bs s same e can near is_bytes =
+    spelled_as rows x at forms.Near k row (least row) _ s same e (had_of row (least row) can) refl (near _) ∙ ap Some (is_bytes _)
 
 -- ---- those of the lookup routine
 

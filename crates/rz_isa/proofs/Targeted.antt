@@ -14,7 +14,7 @@ use Rattle.rz_isa.specs.Insn.{target_of, rip_of, rip_of_operand, first_some, rip
 use Rattle.rz_isa.specs.Having.{has_width, is_register, is_first, has_reg, in_reg_field, in_opcode, names_register, names_memory, is_first_place, has_place}
 use Rattle.rz_isa.specs.Finding.{same_truth}
 use Rattle.rz_isa.specs.Regular.{is_regular}
-use Rattle.rz_isa.specs.Suited.{letter_suits, letters_of, has_condition, has_target, has_repeat, is_displacement, is_repeats, prefixes_suit, is_indirect, is_wide_class, is_suited}
+use Rattle.rz_isa.specs.Suited.{letter_suits, letters_of, has_condition, has_target, has_repeat, is_displacement, is_repeats, prefixes_suit, is_indirect, is_wide_class, form_suits, is_suited}
 use Rattle.rz_isa.specs.Spells.{next_address}
 use Rattle.rz_isa.specs.Emitted.{is_wide_operand, indirect_operand}
 use Rattle.rz_isa.specs.Targets.{IgnoresPlace, RipTargets, DirectTargets, IndirectOperands}
@@ -143,19 +143,24 @@ rip_targets _ = inl (record { same = λ f p. refl; none = λ f. refl })
 
 -- ---- direct targets
 
-record Six (a b c d e f : Bool) : Type 0 where
+record Seven (a b c d e f g : Bool) : Type 0 where
   one : a ≡ true
   two : b ≡ true
   three : c ≡ true
   four : d ≡ true
   five : e ≡ true
   six : f ≡ true
+  seven : g ≡ true
 
-six : (a b c d e f : Bool) → (a && b && c && d && e && f) ≡ true → Six a b c d e f
-six a b c d e f h = record { one = grind arith; two = grind arith; three = grind arith; four = grind arith; five = grind arith; six = grind arith }
+seven : (a b c d e f g : Bool) → (a && b && c && d && e && f && g) ≡ true → Seven a b c d e f g
+seven a b c d e f g h = record { one = grind arith; two = grind arith; three = grind arith; four = grind arith; five = grind arith; six = grind arith; seven = grind arith }
 
-suits : (r : Row) → is_suited r ≡ true → Six (list_all (letter_suits r) (letters_of r.op)) (same_truth (has_condition r.op) (r.span == 16)) (same_truth (has_target r.op) (is_displacement r.imm)) (same_truth (has_repeat r.op) (is_repeats r.f3)) (prefixes_suit r) (not (is_indirect r.op) || is_wide_class r.size)
-suits r h = six _ _ _ _ _ _ h
+suits : (r : Row) → is_suited r ≡ true
+    → Seven (list_all (letter_suits r) (letters_of r.op)) (same_truth (has_condition r.op) (r.span == 16)) (same_truth (has_target r.op) (is_displacement r.imm)) (same_truth (has_repeat r.op) (is_repeats r.f3)) (prefixes_suit r) (not (is_indirect r.op) || is_wide_class r.size) (form_suits r.form r.imm)
+suits r h = seven _ _ _ _ _ _ _ h
+
+pub suited_form : (r : Row) → is_suited r ≡ true → form_suits r.form r.imm ≡ true
+suited_form r h = (suits r h).seven
 
 target_by_op : (op : Op) (f : Fields) → target_of (build_op op f) ≡ (if has_target op then Some f.imm else None)
 target_by_op ops.Jcc f = refl

@@ -8,7 +8,7 @@ use Rattle.rz_isa.specs.declared.rows.OpMap.TheVariants as maps
 use Rattle.rz_isa.specs.declared.rows.RmRule.TheVariants as rules
 use Rattle.rz_isa.specs.declared.rows.ImmKind.TheVariants as imms
 use Rattle.rz_isa.specs.declared.instruction.Place.TheVariants as places
-use Rattle.rz_isa.specs.Number.{are_bytes}
+use Rattle.rz_num.specs.Bytes.{are_bytes}
 use Rattle.rz_isa.specs.Spelling.{Parts, bytes_of, rex_bytes, escape, is_met, b_demand, w_demand, opcode_fits, rm_fits, rm_len, disp_len, second, width_at, imm_len, rex_fits, Fits, SpelledBy}
 use Rattle.rz_isa.specs.Fields.{reg_of, rm_place, rm_width, reg_number, imm_of, rep_of, fields}
 use Rattle.rz_isa.specs.Having.{code_of, in_opcode, has_cond, has_imm, has_place, is_half, is_repeat, opcode_of, is_extended, can_have}

@@ -1,4 +1,4 @@
-use Rattle.std.specs.Prelude.{ℕ, ◌≡◌, ◌+◌, ◌/◌, ◌%◌, ◌^◌, ◌<◌, ◌≤◌, ◌≢◌, nat_lt, ◌||◌, Bool, true, false, List, length, Option, Some, None, IsTrue, IsSomeAnd}
+use Rattle.std.specs.Prelude.{ℕ, ◌≡◌, ◌+◌, ◌/◌, ◌%◌, ◌^◌, ◌<◌, ◌≤◌, ◌≢◌, nat_lt, ◌||◌, Bool, true, false, List, [], ◌∷◌, length, Option, Some, None, IsTrue, IsSomeAnd}
 use Rattle.std.specs.List.{list_any}
 use Rattle.rz_num.specs.declared.width.Width.{Width}
 use Rattle.rz_num.specs.declared.width.Width.TheVariants.{W8, W16, W32, W64}
@@ -99,7 +99,8 @@ pub record Emits (rows : List Row) : Type 0 where
   pub jmp : (t at : ℕ) → t < 2 ^ 64 → IsTrue (near at 5 t) → HasSpelling rows (insns.Jmp t) at forms.Near 5
   pub jmp_short : (t at : ℕ) → t < 2 ^ 64 → IsTrue (close at 2 t) → HasSpelling rows (insns.Jmp t) at forms.Short 2
   pub syscall : (at : ℕ) → HasSpelling rows insns.Syscall at forms.Near 2
-  pub ud2 : (at : ℕ) → HasSpelling rows insns.Ud2 at forms.Near 2
+  -- the bytes of UD2 (Intel SDM, volume 2, "UD")
+  pub ud2 : (at : ℕ) → canonical rows insns.Ud2 at forms.Near ≡ Some (0x0f ∷ 0x0b ∷ [])
   pub hlt : (at : ℕ) → HasSpelling rows insns.Hlt at forms.Near 1
   pub int3 : (at : ℕ) → HasSpelling rows insns.Int3 at forms.Near 1
 

@@ -1,12 +1,8 @@
 use Rattle.std.specs.Prelude.{ℕ, ℤ, pos, ◌+◌, ◌*◌, ◌-◌, ◌%◌, ◌^◌, ◌-ℤ◌, Bool, nat_lt, List, [], ◌∷◌, if◌then◌else◌}
-use Rattle.std.specs.List.{list_all}
 use Rattle.rz_num.specs.declared.width.Width.{Width}
 use Rattle.rz_num.specs.Width.{low_bits}
 
 -- Numbers in the bytes of an instruction (Intel SDM, volume 2, sections 2.1.4 and 2.2.1.3 to 2.2.1.6).
-
-abbrev pub are_bytes : List ℕ → Bool
-are_bytes s = list_all (λ b. nat_lt b 256) s
 
 -- the number of little-endian bytes
 abbrev pub number : List ℕ → ℕ

@@ -9,6 +9,8 @@ use Rattle.rz_isa.specs.declared.rows.Size.{Size}
 use Rattle.rz_isa.specs.declared.rows.Size.TheVariants as sizes
 use Rattle.rz_isa.specs.declared.rows.ImmKind.{ImmKind}
 use Rattle.rz_isa.specs.declared.rows.ImmKind.TheVariants as imms
+use Rattle.rz_isa.specs.declared.rows.Form.{Form}
+use Rattle.rz_isa.specs.declared.rows.Form.TheVariants as forms
 use Rattle.rz_isa.specs.declared.rows.Letter.{Letter}
 use Rattle.rz_isa.specs.declared.rows.Letter.TheVariants as letters
 use Rattle.rz_isa.specs.declared.rows.Op.{Op}
@@ -121,7 +123,13 @@ is_wide_class sizes.Q = true
 is_wide_class sizes.WQ = true
 is_wide_class _ = false
 
+-- a row of the short form has a displacement from the next address: it has a direct target
+abbrev pub form_suits : Form → Option ImmKind → Bool
+form_suits forms.Short k = is_displacement k
+form_suits forms.Near k = true
+
 abbrev pub is_suited : Row → Bool
 is_suited r =
     list_all (letter_suits r) (letters_of r.op) && same_truth (has_condition r.op) (r.span == 16) && same_truth (has_target r.op) (is_displacement r.imm)
     && same_truth (has_repeat r.op) (is_repeats r.f3) && prefixes_suit r && (not (is_indirect r.op) || is_wide_class r.size)
+    && form_suits r.form r.imm

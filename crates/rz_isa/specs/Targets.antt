@@ -1,5 +1,6 @@
-use Rattle.std.specs.Prelude.{ℕ, ◌≡◌, ◌⊎◌, List, Some, None, IsTrue, slice_get, if◌then◌else◌}
+use Rattle.std.specs.Prelude.{ℕ, ◌≡◌, ◌+◌, ◌^◌, ◌≤◌, ◌<◌, ◌⊎◌, List, Some, None, IsTrue, IsSome, slice_get, if◌then◌else◌}
 use Rattle.rz_isa.specs.declared.rows.Row.{Row}
+use Rattle.rz_isa.specs.declared.rows.Form.TheVariants as forms
 use Rattle.rz_isa.specs.declared.rows.Op.{Op}
 use Rattle.rz_isa.specs.declared.instruction.Insn.{Insn}
 use Rattle.rz_isa.specs.declared.instruction.Place.{Place}
@@ -7,6 +8,8 @@ use Rattle.rz_isa.specs.declared.spelled.Fields.{Fields}
 use Rattle.rz_isa.specs.Fields.{build_op}
 use Rattle.rz_isa.specs.Insn.{target_of, rip_of, rip_target_of}
 use Rattle.rz_isa.specs.Suited.{is_displacement}
+use Rattle.rz_isa.specs.Spells.{Spells}
+use Rattle.rz_isa.specs.Canonical.{canonical}
 use Rattle.rz_isa.specs.Table.{SpelledSomewhere}
 use Rattle.rz_isa.specs.Emitted.{is_wide_operand, indirect_operand}
 
@@ -28,3 +31,12 @@ DirectTargets rows = (n : ℕ) (row : Row) (f : Fields) → slice_get rows n ≡
 -- what an indirect call or jump reads is an operand of 64 bits, so it can be moved to a register
 abbrev pub IndirectOperands : List Row → Type 0
 IndirectOperands rows = (n : ℕ) (row : Row) (x : Insn) (p : Place) → slice_get rows n ≡ Some row → SpelledSomewhere row x → indirect_operand x ≡ Some p → IsTrue (is_wide_operand p)
+
+-- what the instruction names relative to RIP, if anything, is low
+abbrev pub NamesLow : Insn → Type 0
+NamesLow x = (a : ℕ) → rip_target_of x ≡ Some a → a < 2 ^ 31
+
+-- an instruction without a direct target that some row spells somewhere has a canonical spelling
+-- at every low address, where what it names relative to RIP is low, too
+abbrev pub SpelledElsewhere : List Row → Type 0
+SpelledElsewhere rows = (x : Insn) (s : List ℕ) (b at : ℕ) → Spells rows s b x → target_of x ≡ None → at + 32 ≤ 2 ^ 31 → NamesLow x → IsSome (canonical rows x at forms.Near)

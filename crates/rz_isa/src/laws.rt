@@ -1,7 +1,7 @@
 ghost use Rattle.std.specs.Prelude.{IsTrue};
 ghost use Rattle.rz_isa.specs.Emitted.{Emits, EmitsLookup, has_lookup};
 ghost use Rattle.rz_isa.specs.Table.{OneRow, Lengths, OneCanonicalRow, HasChosen, CanonicalSpells};
-ghost use Rattle.rz_isa.specs.Targets.{RipTargets, DirectTargets, IndirectOperands};
+ghost use Rattle.rz_isa.specs.Targets.{RipTargets, DirectTargets, IndirectOperands, SpelledElsewhere};
 
 use crate::table::InsnTable;
 
@@ -38,6 +38,13 @@ pub fn targets<T: InsnTable>()
     ensures rip { RipTargets }
     ensures direct { DirectTargets T.rows }
     ensures indirect { IndirectOperands T.rows }
+{}
+
+/// An instruction without a direct target that some row spells at some address has a canonical
+/// spelling of the near form at each address at least 32 bytes below 2^31, where what it names
+/// relative to RIP is below 2^31.
+pub fn spelled_elsewhere<T: InsnTable>()
+    ensures { SpelledElsewhere T.rows }
 {}
 
 /// The instructions that fragments and stubs are made of have canonical spellings; a table with

@@ -4,7 +4,7 @@ use Rattle.std.proofs.lemmas.Bool.{cases_eq}
 use Rattle.rz_image.specs.Memory.{Cell}
 use Rattle.rz_machine.specs.declared.machine.Machine.{Machine}
 use Rattle.rz_image.specs.Memory.{Regions, Range, cell_at, put_byte, code_of, fetched, fetch, SameCode, NoSelfWritten, SamePerms, RangeStands}
-use Rattle.rz_machine.specs.Insn.{Decoder}
+use Rattle.rz_isa.specs.Nodes.{Decoder}
 use Rattle.rz_machine.specs.State.{step, after}
 use Rattle.rz_image.specs.Laws.Puts.{set_byte, cell_at-put_same, cell_at-put_other}
 use Rattle.rz_image.specs.Laws.Alike.{StandsPut}

@@ -1,16 +1,18 @@
 -- The new run comes to a place, by one instruction after the other.
-use Rattle.std.proofs.Common.{◌≡◌, ℕ, suc, ◌+◌, ◌≤◌, Bool, true, false, if◌then◌else◌, Some, None, refl, sym, ap, ◌∙◌, subst, arith}
+use Rattle.std.proofs.Common.{◌≡◌, ℕ, suc, ◌+◌, ◌≤◌, if◌then◌else◌, ◌==◌, get_or, None, refl, sym, ap, ◌∙◌, subst, arith}
 use Rattle.rz_flags.specs.declared.Cond.{Cond}
 use Rattle.rz_flags.specs.Cond.{holds}
-use Rattle.rz_machine.specs.declared.insn.Insn.{Insn}
-use Rattle.rz_machine.specs.declared.insn.Insn.TheVariants as insn
-use Rattle.rz_machine.specs.declared.decode.Decoded.TheVariants as decoded
-use Rattle.rz_machine.specs.declared.machine.End.TheVariants as end
+use Rattle.rz_isa.specs.declared.instruction.Insn.{Insn}
+use Rattle.rz_isa.specs.declared.instruction.Insn.TheVariants as insn
+use Rattle.rz_isa.specs.declared.decoding.Decoded.TheVariants as decoded
 use Rattle.rz_machine.specs.declared.machine.Machine.{Machine}
 use Rattle.rz_image.specs.Memory.{Regions, Range, fetch, wrap}
-use Rattle.rz_machine.specs.Insn.{Decoder, Jumps, Branches, Halts, way_of}
-use Rattle.rz_machine.specs.Form.{carry}
-use Rattle.rz_machine.specs.Effect.{end_by}
+use Rattle.rz_isa.specs.Nodes.{Decoder}
+use Rattle.rz_machine.specs.declared.way.Way.TheVariants.{Jumps, Branches, BranchesOnRcx, Halts}
+use Rattle.rz_machine.specs.declared.way.Halt.{Halt}
+use Rattle.rz_machine.specs.Way.{way_of}
+use Rattle.rz_exec.specs.Form.{carry}
+use Rattle.rz_machine.specs.Action.{end_by}
 use Rattle.rz_machine.specs.State.{step, after, running, act, perform, perform_by, end_with, decoded_at}
 use Rattle.rz_machine.specs.Keeps.{Same}
 use Rattle.rz_machine.proofs.CodeLaws.{HasCode, fetch_same}
@@ -41,9 +43,14 @@ pub branch_is : (x : Insn) (c : Cond) (q next : ℕ) (t : Machine) → way_of x 
 unfolding carry
 branch_is x c q next t is = ap (λ w. perform_by w x next t) is
 
+-- one on RCX too
+pub count_is : (x : Insn) (q next : ℕ) (t : Machine) → way_of x ≡ BranchesOnRcx q → perform x next t ≡ moved (if get_or t.cpu.regs 1 0 == 0 then q else next) t
+unfolding carry
+count_is x q next t is = ap (λ w. perform_by w x next t) is
+
 -- what ends the run leaves the rest
-pub halt_is : (x : Insn) (next : ℕ) (t : Machine) → way_of x ≡ Halts → perform x next t ≡ end_with (end_by x t.cpu.rip) t
-halt_is x next t is = ap (λ w. perform_by w x next t) is
+pub halt_is : (x : Insn) (how : Halt) (next : ℕ) (t : Machine) → way_of x ≡ Halts how → perform x next t ≡ end_with (end_by how t.cpu.rip) t
+halt_is x how next t is = ap (λ w. perform_by w x next t) is
 
 -- the new run comes to a place, in a state the same as one of the old run's, after `least` to `most` steps
 pub record Comes (dec : Decoder) (r : Range) (s t : Machine) (least most q : ℕ) : Type 0 where

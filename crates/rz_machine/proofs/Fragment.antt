@@ -1,20 +1,26 @@
 -- A fragment follows its instruction.
-use Rattle.std.proofs.Common.{◌≡◌, ℕ, ◌+◌, Bool, true, false, if◌then◌else◌, ◌%◌, ◌^◌, ◌<◌, ◌≤◌, inr, List, [], ◌∷◌, set, Option, Some, None, refl, sym, ap, ap₂, ◌∙◌, subst, arith, mod-eq_of_lt}
+use Rattle.std.proofs.Common.{◌≡◌, ℕ, ◌+◌, Bool, true, false, if◌then◌else◌, ◌%◌, ◌^◌, ◌<◌, ◌≤◌, inr, List, [], ◌∷◌, ◌==◌, get_or, set, Option, Some, None, refl, sym, ap, ap₂, ◌∙◌, subst, arith, mod-eq_of_lt}
 use Rattle.rz_flags.specs.declared.Cond.{Cond}
 use Rattle.rz_flags.specs.declared.Flags.{Flags}
 use Rattle.rz_flags.specs.Cond.{holds}
 use Rattle.rz_flags.specs.Word.{flags_word}
-use Rattle.rz_machine.specs.declared.insn.Insn.{Insn}
-use Rattle.rz_machine.specs.declared.insn.Insn.TheVariants as insn
-use Rattle.rz_machine.specs.declared.decode.Decoded.{Decoded}
+use Rattle.rz_isa.specs.declared.instruction.Insn.{Insn}
+use Rattle.rz_isa.specs.declared.instruction.Insn.TheVariants as insn
+use Rattle.rz_isa.specs.declared.decoding.Decoded.{Decoded}
 use Rattle.rz_machine.specs.declared.machine.End.{End}
 use Rattle.rz_machine.specs.declared.machine.End.TheVariants as end
 use Rattle.rz_machine.specs.declared.machine.Machine.{Machine}
 use Rattle.rz_image.specs.Memory.{Regions, IsInside, wrap}
-use Rattle.rz_machine.specs.Insn.{Decoder, Way, Onward, Jumps, Branches, Calls, Halts, way_of, mov_number}
-use Rattle.rz_machine.specs.Form.{Exception, Memory, Own, Divide, Popped, Completion, carry, PlainEffect, complete}
-use Rattle.rz_machine.specs.Attempts.{PlainClear}
-use Rattle.rz_machine.specs.Effect.{plain_effect, end_by}
+use Rattle.rz_isa.specs.Nodes.{Decoder}
+use Rattle.rz_machine.specs.declared.way.Way.{Way}
+use Rattle.rz_machine.specs.declared.way.Way.TheVariants.{Onward, Jumps, Branches, BranchesOnRcx, Transfers, Calls, Halts}
+use Rattle.rz_machine.specs.declared.way.Halt.{Halt}
+use Rattle.rz_machine.specs.declared.way.Halt.TheVariants as halt
+use Rattle.rz_machine.specs.Way.{way_of}
+use Rattle.rz_exec.specs.Form.{Exception, Memory, Own, Divide, Popped, Completion, carry, complete}
+use Rattle.rz_exec.specs.Attempts.{PlainClear}
+use Rattle.rz_exec.specs.Effect.{plain_effect}
+use Rattle.rz_machine.specs.Action.{end_by}
 use Rattle.rz_sys.specs.Answer.{Called, answer}
 use Rattle.rz_machine.specs.State.{step, after, perform, perform_by, end_of, after_exception, after_effect, after_call, after_exit, end_with}
 use Rattle.rz_machine.specs.Touches.{StepClear, InsnClear, WayClear}
@@ -23,10 +29,10 @@ use Rattle.rz_machine.specs.Kept.{Edges}
 use Rattle.rz_machine.specs.Keeps.{Same, AlikeEnds}
 use Rattle.rz_machine.proofs.CodeLaws.{HasCode, step_code}
 use Rattle.rz_sys.specs.Laws.Alike.{CalledAlike, answer_alike, world_after_alike}
-use Rattle.rz_machine.proofs.OneForm.{CompletionAlike, complete_alike}
+use Rattle.rz_exec.specs.Laws.OneForm.{CompletionAlike, complete_alike}
 use Rattle.rz_machine.proofs.Runs.{Follows, Stand}
-use Rattle.rz_machine.specs.Placement.{dest, InsnAt, Onto, FragmentBy, FragmentAt}
-use Rattle.rz_machine.proofs.Comes.{decodes_to, step_is, moved, jump_is, branch_is, halt_is, Comes, stay, one_more, weaker, jump_comes, onto}
+use Rattle.rz_machine.specs.Placement.{mov_number, dest, InsnAt, Onto, FragmentBy, FragmentAt}
+use Rattle.rz_machine.proofs.Comes.{decodes_to, step_is, moved, jump_is, branch_is, count_is, halt_is, Comes, stay, one_more, weaker, jump_comes, onto}
 
 -- RCX is set anew
 rcx_again : (regs : List ℕ) (x y z w : ℕ) → set (set (set (set regs 0 x) 1 y) 11 z) 1 w ≡ set (set (set regs 0 x) 1 w) 11 z
@@ -36,7 +42,7 @@ rcx_again (a ∷ b ∷ regs) x y z w = refl
 
 -- a number moved to a register
 mov_is : (r v next : ℕ) (t : Machine) → v < 2 ^ 32 → perform (mov_number r v) next t ≡ record t { cpu = record t.cpu { regs = set t.cpu.regs r v; rip = next } }
-unfolding carry
+unfolding carry plain_effect
 mov_is r v next t low =
     let P : ℕ → Machine = λ u. record t { cpu = record t.cpu { regs = set t.cpu.regs r u; rip = next } } in
     let e : v % 2 ^ 32 ≡ v = mod-eq_of_lt low in
@@ -166,25 +172,54 @@ module _ (dec : Decoder) (edges : Edges) (lay : Layout) (place bound : ℕ → �
           let k = one_more dec lay.added s1 t t1 0 1 (To a n) e last in
           goes_now a s1 t st.old_runs (weaker dec lay.added s1 t 1 2 1 3 (To a n) (omega arith) (omega arith) k)
 
+  -- a jump on RCX goes over a jump to the next address's label, and then the way to its target's
+  count_follows : (x : Insn) (a b n p q r : ℕ) (s t : Machine) → way_of x ≡ BranchesOnRcx b → InsnAt dec xm a x n → InsnAt dec wm (place a) (insn.Jrcxz q) p → InsnAt dec wm p (insn.Jmp (To a n)) r → Onto dec wm q (To a b)
+      → s.cpu.rip ≡ a → Stand lay place xm wm s t → Follows dec edges lay place bound a (step dec s) t
+  count_follows x a b n p q r s t is old new jump ahead rip st =
+      let there : t.cpu.rip ≡ place a = st.there ∙ ap place rip in
+      let v : Bool = get_or s.cpu.regs 1 0 == 0 in
+      let f : step dec s ≡ moved (if v then b else n) s = step_is dec xm a x n old s st.old_runs rip st.old_code ∙ count_is x b n s is in
+      let e : step dec t ≡ moved (if v then q else p) t =
+      step_is dec wm (place a) (insn.Jrcxz q) p new t st.new_runs there st.new_code ∙ count_is (insn.Jrcxz q) q p t refl
+      ∙ ap (λ g. moved (if get_or g 1 0 == 0 then q else p) t) (sym st.same.regs) in
+      let Q : Machine → Type 0 = λ u. Follows dec edges lay place bound a u t in
+      subst Q (sym f) (go v e)
+    where
+      go : (v : Bool) → step dec t ≡ moved (if v then q else p) t → Follows dec edges lay place bound a (moved (if v then b else n) s) t
+      go true e =
+          let s1 : Machine = moved b s in
+          let t1 : Machine = moved q t in
+          let last = onto dec lay.added wm q (To a b) ahead s1 t1 st.new_runs refl st.new_code (moved_same s t b q st.same) in
+          let k = one_more dec lay.added s1 t t1 0 1 (To a b) e last in
+          goes_now a s1 t st.old_runs (weaker dec lay.added s1 t 1 2 1 3 (To a b) (omega arith) (omega arith) k)
+      go false e =
+          let s1 : Machine = moved n s in
+          let t1 : Machine = moved p t in
+          let last = jump_comes dec lay.added wm p (To a n) r jump s1 t1 st.new_runs refl st.new_code (moved_same s t n p st.same) in
+          let k = one_more dec lay.added s1 t t1 1 1 (To a n) e last in
+          goes_now a s1 t st.old_runs (weaker dec lay.added s1 t 2 2 1 3 (To a n) (omega arith) (omega arith) k)
+
   -- the ends of an instruction that halts are alike, where the new one lies in the code part
-  halts_alike : (x : Insn) (b c : ℕ) → IsInside lay.code c → AlikeEnds lay.code (Some (end_by x b)) (Some (end_by x c))
-  halts_alike x b c inside = inr inside
+  halts_alike : (how : Halt) (b c : ℕ) → IsInside lay.code c → AlikeEnds lay.code (Some (end_by how b)) (Some (end_by how c))
+  halts_alike halt.Ud2 b c inside = inr inside
+  halts_alike halt.Hlt b c inside = refl
+  halts_alike halt.Int3 b c inside = refl
 
   -- what ends the run stays, and its address lies in the code part
-  halt_follows : (x : Insn) (a n p : ℕ) (s t : Machine) → way_of x ≡ Halts → InsnAt dec xm a x n → InsnAt dec wm (place a) x p → IsInside lay.code (place a) → s.cpu.rip ≡ a → Stand lay place xm wm s t
+  halt_follows : (x : Insn) (how : Halt) (a n p : ℕ) (s t : Machine) → way_of x ≡ Halts how → InsnAt dec xm a x n → InsnAt dec wm (place a) x p → IsInside lay.code (place a) → s.cpu.rip ≡ a → Stand lay place xm wm s t
       → Follows dec edges lay place bound a (step dec s) t
-  halt_follows x a n p s t is old new inside rip st =
+  halt_follows x how a n p s t is old new inside rip st =
       let there : t.cpu.rip ≡ place a = st.there ∙ ap place rip in
-      let old_end : End = end_by x s.cpu.rip in
-      let new_end : End = end_by x t.cpu.rip in
+      let old_end : End = end_by how s.cpu.rip in
+      let new_end : End = end_by how t.cpu.rip in
       let s1 : Machine = end_with old_end s in
       let t1 : Machine = end_with new_end t in
-      let f : step dec s ≡ s1 = step_is dec xm a x n old s st.old_runs rip st.old_code ∙ halt_is x n s is in
-      let e : step dec t ≡ t1 = step_is dec wm (place a) x p new t st.new_runs there st.new_code ∙ halt_is x p t is in
+      let f : step dec s ≡ s1 = step_is dec xm a x n old s st.old_runs rip st.old_code ∙ halt_is x how n s is in
+      let e : step dec t ≡ t1 = step_is dec wm (place a) x p new t st.new_runs there st.new_code ∙ halt_is x how p t is in
       let Q : Machine → Type 0 = λ u. Follows dec edges lay place bound a u t in
       let in_code : IsInside lay.code t.cpu.rip = subst (IsInside lay.code) (sym there) inside in
       let same : Same lay.added s1 t1 = record { regs = st.same.regs; flags = st.same.flags; world = st.same.world; mem = st.same.mem } in
-      subst Q (sym f) (ends_now a s1 t t1 old_end new_end e refl refl (halts_alike x s.cpu.rip t.cpu.rip in_code) same)
+      subst Q (sym f) (ends_now a s1 t t1 old_end new_end e refl refl (halts_alike how s.cpu.rip t.cpu.rip in_code) same)
 
   -- after a call, which ends the run or goes on with RCX set to the old next address
   call_follows : (a n p : ℕ) (s t : Machine) (c d : Called) (o : Option ℕ) → c.exit ≡ o → CalledAlike lay.added c d → Stand lay place xm wm s t → step dec t ≡ after_call d p t
@@ -234,5 +269,7 @@ module _ (dec : Decoder) (edges : Edges) (lay : Layout) (place bound : ℕ → �
       go Onward is f = plain_follows x a n f.0 s t is old f.1 f.2 (insn_clear x Onward a n s is old rip st.old_runs st.old_code clear) rip st
       go (Jumps b) is f = jump_follows x a b n f.0 s t is old f.1 rip st
       go (Branches c b) is f = branch_follows x c a b n f.0 s t is old f.1 f.2 rip st
+      go (BranchesOnRcx b) is f = count_follows x a b n f.0 f.1 f.2 s t is old f.3 f.4 f.5 rip st
+      go (Transfers how) is f = absurd f
       go Calls is f = syscall_follows x a n f.0 f.1 s t is old f.2 f.3 f.4 f.5 (insn_clear x Calls a n s is old rip st.old_runs st.old_code clear) rip st
-      go Halts is f = halt_follows x a n f.0 s t is old f.1 f.2 rip st
+      go (Halts how) is f = halt_follows x how a n f.0 s t is old f.1 f.2 rip st

@@ -1,8 +1,7 @@
-pub mod FormStands
+pub mod WayLaws
 pub mod StepLaws
+pub mod InsnSteps
 pub mod CodeLaws
-pub mod NodeLaws
-pub mod OneForm
 pub mod RegLaws
 pub mod Runs
 pub mod Placed
@@ -17,4 +16,3 @@ pub mod TraceTurns
 pub mod Calls
 pub mod RunTurns
 pub mod StartRegions
-pub mod EffectRows

@@ -1,14 +1,14 @@
 -- Whatever the placement, each run of the original is kept.
-use Rattle.std.proofs.Common.{◌≡◌, ℕ, ◌+◌, ◌^◌, ◌<◌, ◌≤◌, true, List, replicate, Some, None, refl, sym, ap, ◌∙◌, arith}
+use Rattle.std.proofs.Common.{◌≡◌, ℕ, ◌+◌, ◌^◌, ◌<◌, true, replicate, None, refl, sym, ap, ◌∙◌, arith}
 use Rattle.std.specs.List.{AllByRecursion}
-use Rattle.rz_machine.specs.declared.insn.Insn.TheVariants as insn
-use Rattle.rz_machine.specs.declared.machine.End.TheVariants as end
+use Rattle.rz_isa.specs.declared.instruction.Insn.TheVariants as insn
 use Rattle.rz_machine.specs.declared.machine.Machine.{Machine}
 use Rattle.rz_sys.specs.declared.input.Input.{Input}
 use Rattle.rz_sys.specs.World.{SameWorld}
 use Rattle.rz_image.specs.Memory.{Regions, NoSelfWritten, RangeStands, wrap}
 use Rattle.rz_elf.specs.Elf.{Image}
-use Rattle.rz_machine.specs.Insn.{Decoder}
+use Rattle.rz_isa.specs.Nodes.{Decoder}
+use Rattle.rz_machine.specs.declared.way.Halt.TheVariants as halt
 use Rattle.rz_machine.specs.Kept.{Kept, has_node}
 use Rattle.rz_machine.specs.Nodes.{code_in, IsPlausible}
 use Rattle.rz_machine.specs.State.{step}
@@ -19,8 +19,8 @@ use Rattle.rz_machine.specs.Keeps.{StopsAtStub, KeepsRun}
 use Rattle.rz_machine.specs.Pace.{Paced}
 use Rattle.rz_machine.specs.Placement.{InsnAt, IsPlaced, PlacementsKeep}
 use Rattle.rz_machine.proofs.CodeLaws.{HasCode}
-use Rattle.rz_machine.proofs.NodeLaws.{spelled_at-code_in}
-use Rattle.rz_machine.proofs.RegLaws.{AreRegs, set_regs}
+use Rattle.rz_exec.specs.Registers.{AreRegs}
+use Rattle.rz_exec.specs.Laws.Registers.{set_regs}
 use Rattle.rz_machine.proofs.Runs.{Follows, Stand, keeps, paced}
 use Rattle.rz_machine.proofs.Comes.{step_is, halt_is}
 use Rattle.rz_machine.proofs.Fragment.{fragment_follows}
@@ -56,7 +56,7 @@ module _ (dec : Decoder) (x w : Image) (kept : Kept) (lay : Layout) (place : ℕ
   each s t node st clear =
       let b : ℕ = s.cpu.rip in
       let nd = can.stands.nodes b node in
-      let fetched = sym (spelled_at-code_in dec x.loads b) ∙ nd.spelled in
+      let fetched = nd.spelled in
       let here : InsnAt dec x.loads b nd.insn (wrap (b + nd.len)) = record { len = nd.len; spelled = fetched; ends = refl } in
       let fragment = (are.placement input).fragments b node nd.insn nd.len fetched in
       fragment_follows dec kept.edges lay place (λ c. 3) (λ c. omega arith) x.loads wm b (wrap (b + nd.len)) nd.insn s t here fragment refl st clear
@@ -65,7 +65,7 @@ module _ (dec : Decoder) (x w : Image) (kept : Kept) (lay : Layout) (place : ℕ
   stub_stops : (t : Machine) (b : ℕ) → IsKept b → t.end ≡ None → HasCode wm t.mem → RangeStands lay.added wm t.mem → t.cpu.rip ≡ lay.stub b → StopsAtStub dec t
   stub_stops t b node runs code range there =
       let stop = (are.placement input).stubs b node in
-      ap (λ u. u.end) (step_is dec wm (lay.stub b) insn.Ud2 stop.0 stop.1 t runs there code ∙ halt_is insn.Ud2 stop.0 t refl)
+      ap (λ u. u.end) (step_is dec wm (lay.stub b) insn.Ud2 stop.0 stop.1 t runs there code ∙ halt_is insn.Ud2 halt.Ud2 stop.0 t refl)
 
   -- both runs stand at the start
   standing : Stand lay place x.loads wm old new

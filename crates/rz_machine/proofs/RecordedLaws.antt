@@ -7,14 +7,15 @@ use Rattle.rz_sys.specs.declared.input.Input.{Input}
 use Rattle.rz_machine.specs.Kept.{Kept, with_nodes, with_edges, Edges, has_edge, has_node}
 use Rattle.rz_image.specs.Memory.{Regions}
 use Rattle.rz_elf.specs.Elf.{Image}
-use Rattle.rz_machine.specs.Insn.{Decoder}
+use Rattle.rz_isa.specs.Nodes.{Decoder}
 use Rattle.rz_machine.specs.State.{step, after}
 use Rattle.rz_machine.specs.Start.{start}
 use Rattle.rz_machine.specs.Begun.{begun_at, begun, neighbours, recorded}
 use Rattle.rz_machine.specs.Keeps.{NoCut}
 use Rattle.rz_machine.specs.LeftCode.{left_at, StaysInCode}
 use Rattle.rz_machine.specs.Traced.{with_run}
-use Rattle.rz_machine.specs.Nodes.{Code, code_in, StandsIn}
+use Rattle.rz_isa.specs.Nodes.{Code}
+use Rattle.rz_machine.specs.Nodes.{code_in, StandsIn}
 use Rattle.rz_machine.specs.Recorded.{IsUncut, StaysPlausible}
 use Rattle.rz_machine.proofs.SetLaws.{has_node-with_nodes, has_edge-with_edges}
 use Rattle.rz_machine.proofs.CodeLaws.{HasCode}

@@ -4,7 +4,7 @@ use Rattle.std.proofs.lemmas.Bool.{cases_lt}
 use Rattle.rz_machine.specs.declared.machine.End.{End}
 use Rattle.rz_machine.specs.declared.machine.Machine.{Machine}
 use Rattle.rz_image.specs.Memory.{Regions, Range, RangeStands}
-use Rattle.rz_machine.specs.Insn.{Decoder}
+use Rattle.rz_isa.specs.Nodes.{Decoder}
 use Rattle.rz_machine.specs.State.{step, after, running}
 use Rattle.rz_machine.specs.Touches.{StepClear, RunClear}
 use Rattle.rz_machine.specs.Added.{Layout}
@@ -13,7 +13,8 @@ use Rattle.rz_machine.specs.Kept.{Edges, has_edge}
 use Rattle.rz_machine.specs.Pace.{IsMoment, Paced}
 use Rattle.rz_machine.specs.Placement.{dest}
 use Rattle.rz_machine.proofs.CodeLaws.{HasCode, step_code, after_code, after_range}
-use Rattle.rz_machine.proofs.RegLaws.{AreRegs, step_regs}
+use Rattle.rz_exec.specs.Registers.{AreRegs}
+use Rattle.rz_machine.proofs.RegLaws.{step_regs}
 
 -- the old run's step from a led to s, and some steps of the new one lead to the same
 pub record Follows (dec : Decoder) (edges : Edges) (lay : Layout) (place bound : ℕ → ℕ) (a : ℕ) (s t : Machine) : Type 0 where

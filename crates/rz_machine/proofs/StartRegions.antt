@@ -4,8 +4,8 @@ use Rattle.rz_image.specs.Memory.{Ascend, zeros}
 use Rattle.rz_sys.specs.Input.{empty_input}
 use Rattle.rz_machine.specs.Start.{heap_region, stack_region, stack_bytes, first_rsp}
 use Rattle.rz_elf.specs.Loaded.{ElfFile, loaded_region, IsRead}
-use Rattle.rz_elf.proofs.Loads.{ascend_read, low_break}
-use Rattle.rz_image.proofs.Zeros.{length-zeros, zeros-append-zeros}
+use Rattle.rz_elf.specs.Laws.Loads.{ascend_read, low_break}
+use Rattle.rz_image.specs.Laws.Zeros.{length-zeros, zeros-append-zeros}
 
 words_are_zeros : 0 ∷ 0 ∷ 0 ∷ 0 ∷ 0 ∷ 0 ∷ 0 ∷ 0 ∷ 0 ∷ 0 ∷ 0 ∷ 0 ∷ 0 ∷ 0 ∷ 0 ∷ 0 ∷ 0 ∷ 0 ∷ 0 ∷ 0 ∷ 0 ∷ 0 ∷ 0 ∷ 0 ∷ 0 ∷ 0 ∷ 0 ∷ 0 ∷ 0 ∷ 0 ∷ 0 ∷ 0 ∷ 0 ∷ 0 ∷ 0 ∷ 0 ∷ 0 ∷ 0 ∷ 0 ∷ 0 ∷ [] ≡ zeros 40
 unfolding zeros

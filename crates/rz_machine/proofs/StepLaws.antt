@@ -1,18 +1,19 @@
 -- What a step does to memory: nothing but puts of bytes.
 use Rattle.std.proofs.Common.{ℕ, zero, suc, Option, Some, None}
-use Rattle.rz_machine.specs.declared.decode.Decoded.{Decoded}
-use Rattle.rz_machine.specs.declared.decode.Decoded.TheVariants as decoded
+use Rattle.rz_isa.specs.declared.decoding.Decoded.{Decoded}
+use Rattle.rz_isa.specs.declared.decoding.Decoded.TheVariants as decoded
 use Rattle.rz_machine.specs.declared.machine.End.{End}
 use Rattle.rz_machine.specs.declared.machine.Machine.{Machine}
 use Rattle.rz_image.specs.Memory.{Regions}
 use Rattle.rz_image.specs.Laws.Alike.{StandsPut}
-use Rattle.rz_machine.specs.Insn.{Decoder, way_of}
-use Rattle.rz_machine.specs.Form.{Exception, Completion}
-use Rattle.rz_machine.specs.Effect.{Action, Passes, Leads, Asks, Ends, action_by}
+use Rattle.rz_isa.specs.Nodes.{Decoder}
+use Rattle.rz_machine.specs.Way.{way_of}
+use Rattle.rz_exec.specs.Form.{Exception, Completion}
+use Rattle.rz_machine.specs.Action.{Action, Passes, Leads, Asks, Ends, action_by}
 use Rattle.rz_sys.specs.Answer.{Called}
 use Rattle.rz_sys.specs.Laws.Answers.{answer_stands}
 use Rattle.rz_machine.specs.State.{step, after, act, perform_action, running, after_exception, after_exit}
-use Rattle.rz_machine.proofs.FormStands.{carry_stands, complete_stands}
+use Rattle.rz_exec.specs.Laws.FormStands.{carry_stands, complete_stands}
 
 module _ (P : Regions → Type 0) (stands : StandsPut P) where
   -- one step

@@ -1,25 +1,32 @@
 -- What a run begins: its instructions stand in the file, and its edges are what the instructions lead to.
-use Rattle.std.proofs.Common.{◌≡◌, ℕ, zero, suc, ◌+◌, ◌⊎◌, inl, inr, ⊎_elim, Bool, true, false, if◌then◌else◌, ◌&&◌, ◌||◌, ◌==◌, List, [], ◌∷◌, ◌++◌, Option, Some, None, refl, sym, ap, ◌∙◌, subst, eqb-true, eq-eqb}
+use Rattle.std.proofs.Common.{◌≡◌, ℕ, zero, suc, ◌+◌, ◌⊎◌, inl, inr, ⊎_elim, Bool, true, false, if◌then◌else◌, ◌&&◌, ◌||◌, ◌==◌, List, [], ◌∷◌, ◌++◌, get_or, Option, Some, None, refl, sym, ap, ap₂, ◌∙◌, subst, eqb-true, eq-eqb}
 use Rattle.std.proofs.lemmas.Bool.{and_parts, or_left, or_right}
-use Rattle.rz_flags.specs.declared.Flags.{Flags}
 use Rattle.rz_flags.specs.Cond.{holds}
-use Rattle.rz_machine.specs.declared.insn.Insn.{Insn}
-use Rattle.rz_machine.specs.declared.decode.Decoded.{Decoded}
-use Rattle.rz_machine.specs.declared.decode.Decoded.TheVariants as decoded
+use Rattle.rz_isa.specs.declared.instruction.Insn.{Insn}
+use Rattle.rz_isa.specs.declared.decoding.Decoded.{Decoded}
+use Rattle.rz_isa.specs.declared.decoding.Decoded.TheVariants as decoded
 use Rattle.rz_machine.specs.declared.machine.End.{End}
 use Rattle.rz_machine.specs.declared.machine.End.TheVariants as end
 use Rattle.rz_machine.specs.declared.machine.Machine.{Machine}
 use Rattle.rz_image.specs.Memory.{Regions, wrap}
-use Rattle.rz_machine.specs.Insn.{Decoder, Way, Onward, Jumps, Branches, Calls, Halts, way_of, kind_in, target_in, direct_by, direct}
-use Rattle.rz_machine.specs.Form.{Exception, Memory, Own, Divide, Popped, Completion}
+use Rattle.rz_isa.specs.Nodes.{Decoder}
+use Rattle.rz_machine.specs.declared.way.Way.{Way}
+use Rattle.rz_machine.specs.declared.way.Transfer.TheVariants as transfer
+use Rattle.rz_machine.specs.declared.way.Halt.TheVariants as halt
+use Rattle.rz_machine.specs.declared.way.Way.TheVariants.{Onward, Jumps, Branches, BranchesOnRcx, Transfers, Calls, Halts}
+use Rattle.rz_machine.specs.Way.{way_of}
+use Rattle.rz_isa.specs.Insn.{kind_of}
+use Rattle.rz_isa.specs.Nodes.{is_site, direct_by, direct}
+use Rattle.rz_machine.proofs.WayLaws.{kind_in, target_in, kind_by_way, target_by_way}
+use Rattle.rz_exec.specs.Form.{Exception, Memory, Own, Divide, Popped, Completion}
 use Rattle.rz_sys.specs.Answer.{Called}
 use Rattle.rz_machine.specs.State.{step, after, act, perform, perform_by, running, after_exception, after_exit, decoded_at}
 use Rattle.rz_machine.specs.Begun.{begun_by, begun_at, begun, neighbours}
-use Rattle.rz_machine.specs.Nodes.{Code, code_in, IsNode, spelled_at, is_site_at, direct_at}
+use Rattle.rz_isa.specs.Nodes.{Code, IsNode, spelled_at, is_site_at, direct_at}
+use Rattle.rz_machine.specs.Nodes.{code_in}
 use Rattle.rz_machine.specs.Kept.{has_edge, has_node}
 use Rattle.rz_machine.specs.LeftCode.{left_at}
 use Rattle.rz_machine.proofs.CodeLaws.{HasCode, fetch_same, step_code}
-use Rattle.rz_machine.proofs.NodeLaws.{spelled_at-code_in}
 
 -- an instruction never ends a run with Fetch or Unknown
 pub perform_stays : (x : Insn) (next : ℕ) (s : Machine) → s.end ≡ None → left_at (perform x next s).end ≡ None
@@ -39,8 +46,12 @@ perform_stays x next s h = go (way_of x)
     go Onward = effect _ _ _
     go (Jumps target) = effect _ _ _
     go (Branches cond target) = effect _ _ _
+    go (BranchesOnRcx target) = effect _ _ _
+    go (Transfers t) = effect _ _ _
     go Calls = call _ _
-    go Halts = refl
+    go (Halts halt.Ud2) = refl
+    go (Halts halt.Hlt) = refl
+    go (Halts halt.Int3) = refl
 
 -- a state that has ended stays, and begins nothing
 
@@ -142,7 +153,7 @@ or_true false y e = inr e
 
 -- what begins at a state stands in the code that the state has
 begins_spelled : (dec : Decoder) (m : Regions) (s : Machine) → HasCode m s.mem → (b : Begins dec s) → spelled_at dec (code_in m) s.cpu.rip ≡ decoded.Insn b.insn b.len
-begins_spelled dec m s code b = spelled_at-code_in dec m s.cpu.rip ∙ ap (λ bs. dec bs s.cpu.rip) (fetch_same m s.mem s.cpu.rip 15 code.same) ∙ b.spelled
+begins_spelled dec m s code b = ap (λ bs. dec bs s.cpu.rip) (fetch_same m s.mem s.cpu.rip 15 code.same) ∙ b.spelled
 
 begins_node : (dec : Decoder) (m : Regions) (s : Machine) → HasCode m s.mem → Begins dec s → IsNode dec (code_in m) s.cpu.rip
 begins_node dec m s code b = record { insn = b.insn; len = b.len; spelled = begins_spelled dec m s code b }
@@ -174,9 +185,11 @@ neighbours_in (x ∷ y ∷ rest) a b h =
     (λ e. let p = neighbours_in (y ∷ rest) a b e in (or_right (x == a) _ p.0, or_right (x == b) _ p.1))
     (or_true (x == a && y == b) (has_edge (neighbours (y ∷ rest)) a b) h)
 
--- an instruction that goes on leads to one of its static successors
-leads_direct : (x : Insn) (next : ℕ) (s : Machine) → (perform x next s).end ≡ None → has_node (direct x next) (perform x next s).cpu.rip ≡ true
-leads_direct x next s e = go (way_of x) e
+-- an instruction that is no site and goes on leads to one of its static successors
+leads_direct : (x : Insn) (next : ℕ) (s : Machine) → is_site (kind_of x) ≡ false → (perform x next s).end ≡ None → has_node (direct x next) (perform x next s).cpu.rip ≡ true
+leads_direct x next s site e =
+    let same : direct x next ≡ direct_by (kind_in (way_of x)) (target_in (way_of x)) next = ap₂ (λ k t. direct_by k t next) (kind_by_way x) (target_by_way x) in
+    ap (λ l. has_node l (perform x next s).cpu.rip) same ∙ go (way_of x) (ap is_site (sym (kind_by_way x)) ∙ site) e
   where
     itself : (a : ℕ) (rest : List ℕ) → has_node (a ∷ rest) a ≡ true
     itself a rest = or_left (a == a) (has_node rest a) (eq-eqb a a refl)
@@ -193,12 +206,17 @@ leads_direct x next s e = go (way_of x) e
     call (Some status) c k = cc
     call None c k = itself next []
 
-    go : (w : Way) → (perform_by w x next s).end ≡ None → has_node (direct_by (kind_in w) (target_in w) next) (perform_by w x next s).cpu.rip ≡ true
-    go Onward k = effect _ _ next (next ∷ []) (itself next []) k
-    go (Jumps target) k = effect _ _ target (target ∷ []) (itself target []) k
-    go (Branches cond target) k = effect _ _ _ (next ∷ target ∷ []) (chosen (holds cond s.cpu.flags) target) k
-    go Calls k = call _ _ k
-    go Halts k = cc
+    go : (w : Way) → is_site (kind_in w) ≡ false → (perform_by w x next s).end ≡ None → has_node (direct_by (kind_in w) (target_in w) next) (perform_by w x next s).cpu.rip ≡ true
+    go Onward i k = effect _ _ next (next ∷ []) (itself next []) k
+    go (Jumps target) i k = effect _ _ target (target ∷ []) (itself target []) k
+    go (Branches cond target) i k = effect _ _ _ (next ∷ target ∷ []) (chosen (holds cond s.cpu.flags) target) k
+    go (BranchesOnRcx target) i k = effect _ _ _ (next ∷ target ∷ []) (chosen (get_or s.cpu.regs 1 0 == 0) target) k
+    go (Transfers (transfer.Call target)) i k = effect _ _ target (target ∷ []) (itself target []) k
+    go (Transfers (transfer.CallInd src)) i k = cc
+    go (Transfers (transfer.JmpInd src)) i k = cc
+    go (Transfers (transfer.Ret pop)) i k = cc
+    go Calls i k = call _ _ k
+    go (Halts how) i k = cc
 
 -- where a node isn't a return or an indirect transfer, an edge that leaves it is to a static successor
 unfoldable pub IsDirect : Decoder → Code → ℕ → ℕ → Type 0
@@ -212,7 +230,7 @@ step_direct dec m s code b e =
     let stepped : step dec s ≡ perform b.insn (wrap (s.cpu.rip + b.len)) s = step_running dec s b.running ∙ ap (λ d. act d s) b.spelled in
     let P : Decoded → ℕ → Type 0 = λ d to. is_site_at (λ bs at. d) (code_in m) s.cpu.rip ≡ false → has_node (direct_at (λ bs at. d) (code_in m) s.cpu.rip) to ≡ true in
     let there : P (decoded.Insn b.insn b.len) (perform b.insn (wrap (s.cpu.rip + b.len)) s).cpu.rip =
-    λ site. leads_direct b.insn (wrap (s.cpu.rip + b.len)) s (ap (λ t. t.end) (sym stepped) ∙ e) in
+    λ site. leads_direct b.insn (wrap (s.cpu.rip + b.len)) s site (ap (λ t. t.end) (sym stepped) ∙ e) in
     subst (λ d. P d (step dec s).cpu.rip) (sym same) (subst (λ t. P (decoded.Insn b.insn b.len) t.cpu.rip) (sym stepped) there)
 
 -- each edge of a run that leaves no site is to a static successor

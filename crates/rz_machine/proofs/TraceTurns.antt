@@ -10,7 +10,7 @@ use Rattle.rz_machine.specs.declared.machine.Machine.{Machine}
 use Rattle.rz_machine.specs.Kept.{Kept, pair_cmp, with_nodes, with_edges}
 use Rattle.rz_machine.specs.declared.trace.TraceRefusal.{TraceRefusal}
 use Rattle.rz_machine.specs.declared.trace.TraceRefusal.TheVariants as refusal
-use Rattle.rz_machine.specs.Insn.{Decoder}
+use Rattle.rz_isa.specs.Nodes.{Decoder}
 use Rattle.rz_machine.specs.State.{step, after, decoded_at}
 use Rattle.rz_machine.specs.Begun.{begun_by, begun_at, begun, neighbours}
 use Rattle.rz_machine.specs.LeftCode.{left_at, LeavesCode, StaysInCode}

@@ -3,9 +3,10 @@ use Rattle.std.specs.Prelude.{ℕ, ◌+◌, ◌*◌, if◌then◌else◌, ◌==�
 use Rattle.rz_image.specs.Memory.{Range}
 use Rattle.rz_elf.specs.Elf.{Image}
 use Rattle.rz_elf.specs.AddedRange.{Added, stub_size, tables_size, code_size, stubs_size, lowest, page_floor, parts_below}
-use Rattle.rz_machine.specs.Insn.{Decoder}
+use Rattle.rz_isa.specs.Nodes.{Decoder}
 use Rattle.rz_machine.specs.Kept.{Edges, Kept, sorted, sorted_edges}
-use Rattle.rz_machine.specs.Nodes.{Code, code_in, is_site_at}
+use Rattle.rz_isa.specs.Nodes.{Code, is_site_at}
+use Rattle.rz_machine.specs.Nodes.{code_in}
 
 -- the kept returns and indirect transfers, and the kept edges that leave them
 abbrev pub sites : Decoder → Code → List ℕ → List ℕ

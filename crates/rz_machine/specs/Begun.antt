@@ -1,10 +1,10 @@
 -- What a run uses: the instructions that it begins, and the pairs of neighbours.
 use Rattle.std.specs.Prelude.{ℕ, zero, suc, List, [], ◌∷◌, ◌++◌, Option, Some, None}
-use Rattle.rz_machine.specs.declared.decode.Decoded.{Decoded}
-use Rattle.rz_machine.specs.declared.decode.Decoded.TheVariants as decoded
+use Rattle.rz_isa.specs.declared.decoding.Decoded.{Decoded}
+use Rattle.rz_isa.specs.declared.decoding.Decoded.TheVariants as decoded
 use Rattle.rz_machine.specs.declared.machine.End.{End}
 use Rattle.rz_machine.specs.declared.machine.Machine.{Machine}
-use Rattle.rz_machine.specs.Insn.{Decoder}
+use Rattle.rz_isa.specs.Nodes.{Decoder}
 use Rattle.rz_machine.specs.Kept.{Kept, with_nodes, with_edges}
 use Rattle.rz_machine.specs.State.{step, decoded_at}
 

@@ -6,7 +6,7 @@ use Rattle.rz_machine.specs.declared.machine.Machine.{Machine}
 use Rattle.rz_sys.specs.declared.input.Input.{Input}
 use Rattle.rz_image.specs.Memory.{Range, IsInside, Alike}
 use Rattle.rz_sys.specs.World.{SameWorld}
-use Rattle.rz_machine.specs.Insn.{Decoder}
+use Rattle.rz_isa.specs.Nodes.{Decoder}
 use Rattle.rz_machine.specs.Kept.{Edges, Kept, has_edge}
 use Rattle.rz_elf.specs.Elf.{image_of}
 use Rattle.rz_machine.specs.State.{step, after}

@@ -1,14 +1,11 @@
-pub mod Insn
+pub mod Way
 pub mod Kept
-pub mod Form
-pub mod Attempts
-pub mod Effect
+pub mod Action
 pub mod State
 pub mod Touches
 pub mod Start
 pub mod Begun
 pub mod Nodes
-pub mod First
 pub mod Added
 pub mod Keeps
 pub mod WrittenFile
@@ -16,7 +13,6 @@ pub mod Pace
 pub mod Placement
 pub mod LeftCode
 pub mod Traced
-pub mod TableLaws
-pub mod FirstLaws
 pub mod Ran
 pub mod Recorded
+pub mod Calls

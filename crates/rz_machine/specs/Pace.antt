@@ -3,7 +3,7 @@ use Rattle.std.specs.Prelude.{◌≡◌, ℕ, zero, suc, ◌+◌, ◌<◌, ◌�
 use Rattle.rz_machine.specs.declared.machine.End.{End}
 use Rattle.rz_machine.specs.declared.machine.Machine.{Machine}
 use Rattle.rz_image.specs.Memory.{Range}
-use Rattle.rz_machine.specs.Insn.{Decoder}
+use Rattle.rz_isa.specs.Nodes.{Decoder}
 use Rattle.rz_machine.specs.State.{after}
 use Rattle.rz_machine.specs.Touches.{RunClear}
 use Rattle.rz_machine.specs.Added.{Layout}

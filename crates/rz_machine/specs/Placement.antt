@@ -1,13 +1,18 @@
 -- Placements: where the instructions that stand for each kept one are found in a new file's memory, in any spelling of the table.
-use Rattle.std.specs.Prelude.{◌≡◌, ℕ, ◌+◌, ◌^◌, ◌<◌, Bool, true, if◌then◌else◌, List, [], ◌∷◌}
-use Rattle.rz_machine.specs.declared.decode.Decoded.{Decoded}
-use Rattle.rz_machine.specs.declared.decode.Decoded.TheVariants as decoded
-use Rattle.rz_machine.specs.declared.insn.Insn.{Insn}
-use Rattle.rz_machine.specs.declared.insn.Insn.TheVariants as insn
+use Rattle.std.specs.Prelude.{◌≡◌, ℕ, ◌+◌, ◌^◌, ◌<◌, true, if◌then◌else◌, List, [], ◌∷◌}
+use Rattle.rz_num.specs.declared.width.Width.TheVariants.{W32}
+use Rattle.rz_isa.specs.declared.decoding.Decoded.TheVariants as decoded
+use Rattle.rz_isa.specs.declared.instruction.Insn.{Insn}
+use Rattle.rz_isa.specs.declared.instruction.Insn.TheVariants as insn
+use Rattle.rz_isa.specs.declared.instruction.Operand.TheVariants.{Imm}
+use Rattle.rz_isa.specs.Emitted.{register}
 use Rattle.rz_sys.specs.declared.input.Input.{Input}
 use Rattle.rz_image.specs.Memory.{Regions, IsInside, Alike, NoSelfWritten, fetch, wrap}
 use Rattle.rz_elf.specs.Elf.{Image}
-use Rattle.rz_machine.specs.Insn.{Decoder, Way, Onward, Jumps, Branches, Calls, Halts, way_of, mov_number}
+use Rattle.rz_isa.specs.Nodes.{Decoder}
+use Rattle.rz_machine.specs.declared.way.Way.{Way}
+use Rattle.rz_machine.specs.declared.way.Way.TheVariants.{Onward, Jumps, Branches, BranchesOnRcx, Transfers, Calls, Halts}
+use Rattle.rz_machine.specs.Way.{way_of}
 use Rattle.rz_machine.specs.Kept.{Edges, Kept, has_node, has_edge}
 use Rattle.rz_machine.specs.Nodes.{code_in, IsPlausible}
 use Rattle.rz_machine.specs.Start.{start}
@@ -35,16 +40,23 @@ pub data Onto (dec : Decoder) (m : Regions) (p q : ℕ) : Type 0 where
 abbrev pub dest : Edges → (ℕ → ℕ) → (ℕ → ℕ) → ℕ → ℕ → ℕ
 dest edges place stub a b = if has_edge edges a b then place b else stub a
 
--- what stands at the place of a for an instruction that goes on in this way, before n;
--- after a system call RCX is set to the old next address
+-- MOV of a number to a 32-bit register
+abbrev pub mov_number : ℕ → ℕ → Insn
+mov_number r v = insn.Mov W32 (register r) (Imm v)
+
+-- what stands at the place of a for an instruction that goes on in this way, before n: JRCXZ goes over a jump,
+-- after a system call RCX is set to the old next address; for a transfer nothing can stand there yet
 abbrev pub FragmentBy : Way → Decoder → Edges → Layout → (ℕ → ℕ) → Regions → ℕ → ℕ → Insn → Type 0
 FragmentBy Onward dec edges lay place m a n x = (p : ℕ) × InsnAt dec m (place a) x p × Onto dec m p (dest edges place lay.stub a n)
 FragmentBy (Jumps b) dec edges lay place m a n x = (p : ℕ) × InsnAt dec m (place a) (insn.Jmp (dest edges place lay.stub a b)) p
 FragmentBy (Branches c b) dec edges lay place m a n x =
     (p : ℕ) × InsnAt dec m (place a) (insn.Jcc c (dest edges place lay.stub a b)) p × Onto dec m p (dest edges place lay.stub a n)
+FragmentBy (BranchesOnRcx b) dec edges lay place m a n x =
+    (p q r : ℕ) × InsnAt dec m (place a) (insn.Jrcxz q) p × InsnAt dec m p (insn.Jmp (dest edges place lay.stub a n)) r × Onto dec m q (dest edges place lay.stub a b)
+FragmentBy (Transfers t) dec edges lay place m a n x = ⊥
 FragmentBy Calls dec edges lay place m a n x =
     (p q : ℕ) × (n < 2 ^ 32) × InsnAt dec m (place a) x p × InsnAt dec m p (mov_number 1 n) q × Onto dec m q (dest edges place lay.stub a n)
-FragmentBy Halts dec edges lay place m a n x = (p : ℕ) × InsnAt dec m (place a) x p × IsInside lay.code (place a)
+FragmentBy (Halts how) dec edges lay place m a n x = (p : ℕ) × InsnAt dec m (place a) x p × IsInside lay.code (place a)
 
 -- the fragment of the instruction x at a, before n, stands at the place of a
 abbrev pub FragmentAt : Decoder → Edges → Layout → (ℕ → ℕ) → Regions → ℕ → ℕ → Insn → Type 0

@@ -4,7 +4,7 @@ use Rattle.rz_machine.specs.declared.machine.End.{End}
 use Rattle.rz_machine.specs.declared.machine.Machine.{Machine}
 use Rattle.rz_image.specs.Memory.{NoSelfWritten}
 use Rattle.rz_elf.specs.Elf.{Image}
-use Rattle.rz_machine.specs.Insn.{Decoder}
+use Rattle.rz_isa.specs.Nodes.{Decoder}
 use Rattle.rz_machine.specs.State.{after}
 use Rattle.rz_machine.specs.Kept.{Edges, Kept}
 use Rattle.rz_machine.specs.Nodes.{code_in, StandsIn, IsPlausible}

@@ -2,16 +2,18 @@
 use Rattle.std.specs.Prelude.{ℕ, zero, suc, ◌+◌, List, set, Option, Some, None}
 use Rattle.rz_flags.specs.declared.Flags.{Flags}
 use Rattle.rz_flags.specs.Word.{flags_word}
-use Rattle.rz_machine.specs.declared.insn.Insn.{Insn}
-use Rattle.rz_machine.specs.declared.decode.Decoded.{Decoded}
-use Rattle.rz_machine.specs.declared.decode.Decoded.TheVariants as decoded
+use Rattle.rz_isa.specs.declared.instruction.Insn.{Insn}
+use Rattle.rz_isa.specs.declared.decoding.Decoded.{Decoded}
+use Rattle.rz_isa.specs.declared.decoding.Decoded.TheVariants as decoded
 use Rattle.rz_machine.specs.declared.machine.End.{End}
 use Rattle.rz_machine.specs.declared.machine.End.TheVariants as end
 use Rattle.rz_machine.specs.declared.machine.Machine.{Machine}
 use Rattle.rz_image.specs.Memory.{fetch, wrap}
-use Rattle.rz_machine.specs.Insn.{Decoder, Way, way_of}
-use Rattle.rz_machine.specs.Form.{Divide, Popped, Exception, Memory, Own, Completion, first_word, carry, complete}
-use Rattle.rz_machine.specs.Effect.{Action, Passes, Leads, Asks, Ends, action_by}
+use Rattle.rz_isa.specs.Nodes.{Decoder}
+use Rattle.rz_machine.specs.declared.way.Way.{Way}
+use Rattle.rz_machine.specs.Way.{way_of}
+use Rattle.rz_exec.specs.Form.{Divide, Popped, Exception, Memory, Own, Completion, first_word, carry, complete}
+use Rattle.rz_machine.specs.Action.{Action, Passes, Leads, Asks, Ends, action_by}
 use Rattle.rz_sys.specs.Answer.{Called, answer, world_after}
 
 abbrev pub end_with : End → Machine → Machine

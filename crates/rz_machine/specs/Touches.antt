@@ -1,13 +1,15 @@
 -- Which accesses a run makes: where it touches no byte of a range.
 use Rattle.std.specs.Prelude.{◌≡◌, ℕ, ◌+◌, ◌<◌, None}
-use Rattle.rz_machine.specs.declared.insn.Insn.{Insn}
-use Rattle.rz_machine.specs.declared.decode.Decoded.{Decoded}
-use Rattle.rz_machine.specs.declared.decode.Decoded.TheVariants as decoded
+use Rattle.rz_isa.specs.declared.instruction.Insn.{Insn}
+use Rattle.rz_isa.specs.declared.decoding.Decoded.{Decoded}
+use Rattle.rz_isa.specs.declared.decoding.Decoded.TheVariants as decoded
 use Rattle.rz_machine.specs.declared.machine.Machine.{Machine}
 use Rattle.rz_image.specs.Memory.{Range, wrap}
-use Rattle.rz_machine.specs.Insn.{Decoder, Way, way_of}
-use Rattle.rz_machine.specs.Attempts.{EffectClear, PlainClear}
-use Rattle.rz_machine.specs.Effect.{Action, Passes, Leads, Asks, Ends, action_by}
+use Rattle.rz_isa.specs.Nodes.{Decoder}
+use Rattle.rz_machine.specs.declared.way.Way.{Way}
+use Rattle.rz_machine.specs.Way.{way_of}
+use Rattle.rz_exec.specs.Attempts.{EffectClear, PlainClear}
+use Rattle.rz_machine.specs.Action.{Action, Passes, Leads, Asks, Ends, action_by}
 use Rattle.rz_sys.specs.Answer.{call_in, cut_count, rsi, rdx, CallClear}
 use Rattle.rz_machine.specs.State.{decoded_at, after}
 

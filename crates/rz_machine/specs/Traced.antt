@@ -6,7 +6,7 @@ use Rattle.rz_machine.specs.declared.machine.Machine.{Machine}
 use Rattle.rz_machine.specs.declared.trace.Record.{Record}
 use Rattle.rz_machine.specs.declared.trace.TraceRefusal.{TraceRefusal}
 use Rattle.rz_machine.specs.declared.trace.TraceRefusal.TheVariants as refusal
-use Rattle.rz_machine.specs.Insn.{Decoder}
+use Rattle.rz_isa.specs.Nodes.{Decoder}
 use Rattle.rz_machine.specs.Kept.{Kept, with_nodes, with_edges}
 use Rattle.rz_machine.specs.Begun.{begun, neighbours}
 use Rattle.rz_machine.specs.LeftCode.{LeavesCode}

@@ -3,7 +3,7 @@ use Rattle.std.specs.Prelude.{◌≡◌, ℕ, ◌-◌, ◌<◌, ◌≤◌, List,
 use Rattle.rz_elf.specs.Elf.{fault_of, image_of}
 use Rattle.rz_elf.specs.AddedRange.{Added, stubs_part}
 use Rattle.rz_elf.specs.WrittenFile.{Parts, written_file, new_image}
-use Rattle.rz_machine.specs.Insn.{Decoder}
+use Rattle.rz_isa.specs.Nodes.{Decoder}
 use Rattle.rz_machine.specs.Kept.{Kept, sorted}
 use Rattle.rz_machine.specs.Added.{added}
 

@@ -1,11 +1,12 @@
 //! Laws of runs over the definitions alone.
 
+ghost use Rattle.rz_isa.specs.Decoded.{decoded};
 ghost use Rattle.rz_machine.specs.Placement.{PlacementsKeep};
 
-use crate::table::InsnTable;
+use rz_isa::InsnTable;
 
 /// Whatever the placement of what is kept, in any spelling of the table, each run of the original is kept, with one
 /// to three steps for each of its steps.
 pub fn placements_keep<T: InsnTable>()
-    ensures { PlacementsKeep T.decoder 3 }
+    ensures { PlacementsKeep (decoded T.rows) 3 }
 {}

@@ -1,16 +1,18 @@
 //! The machine: registers, memory and the outside, and its step.
 
 ghost use Rattle.std.specs.Prelude.{◌≡◌};
-ghost use Rattle.rz_machine.specs.Effect.{is_written, merge as merge_of};
-ghost use Rattle.rz_machine.specs.TableLaws.{AreBytes};
+ghost use Rattle.rz_exec.specs.Fault.{exception_of};
+ghost use Rattle.rz_machine.specs.Action.{end_by};
+ghost use Rattle.rz_machine.specs.State.{end_of};
 
-use crate::decode::Decoded;
-use crate::insn::{Insn, Operand, Place, Reg};
-use crate::table::InsnTable;
-use rz_alu::arith;
-use rz_flags::{ArithOp, Cond, Flags, holds, to_word};
+use crate::transfer::transfer;
+use crate::way::{Halt, Way, find_way};
+use rz_decode::decode;
+use rz_exec::{Cpu, Fault, exec_plain};
+use rz_flags::{holds, to_word};
 use rz_image::memory::Memory;
-use rz_num::{OutOfMemory, Width, mask};
+use rz_isa::{Decoded, Insn, InsnTable};
+use rz_num::OutOfMemory;
 use rz_sys::call::syscall;
 use rz_sys::world::World;
 use std::alloc::Global;
@@ -19,15 +21,6 @@ use std::alloc::Global;
 const RCX: usize = 1;
 
 const R11: usize = 11;
-
-/// The registers (Intel SDM, volume 1, section 3.4).
-#[derive(Clone, Copy, PartialEq, Eq)]
-pub struct Cpu {
-    pub regs: [u64; 16],
-    /// The address of the instruction that is next.
-    pub rip: u64,
-    pub flags: Flags,
-}
 
 /// How a run ends. Registers and memory stay as they were before that step, but for the whole iterations of a repeat.
 #[derive(Clone, Copy, PartialEq, Eq, Debug)]
@@ -42,7 +35,7 @@ pub enum End {
     Unknown(u64),
     /// By a division.
     Divide,
-    /// At an instruction that ends the run, at this address.
+    /// At an undefined instruction, at this address.
     Illegal(u64),
     Halted,
     Break,
@@ -67,21 +60,20 @@ pub enum Outcome {
 }
 
 impl Machine {
-    ghost use Rattle.std.specs.Prelude.{◌≡◌, ◌<◌, ℕ, OnOk, OnErr, IfOk};
-    ghost use Rattle.rz_machine.specs.State.{step as step_of, after as after_of, perform as perform_of, perform_action};
-    ghost use Rattle.rz_machine.specs.Effect.{Asks};
-    ghost use Rattle.rz_machine.specs.declared.insn.Reg.TheVariants.{R};
-    ghost use Rattle.rz_machine.specs.declared.insn.Place.TheVariants as place;
-    ghost use Rattle.rz_machine.specs.declared.insn.Operand.TheVariants.{Imm};
-    ghost use Rattle.rz_machine.specs.declared.insn.Insn.TheVariants as insn;
-    ghost use Rattle.rz_machine.specs.Insn.{IsNamed};
+    ghost use Rattle.std.specs.Prelude.{◌≡◌, ◌<◌, ℕ, IsTrue, OnOk, OnErr, IfOk};
+    ghost use Rattle.rz_isa.specs.Decoded.{decoded};
+    ghost use Rattle.rz_exec.specs.Effect.{is_named};
+    ghost use Rattle.rz_machine.specs.State.{step as step_of, after as after_of, perform as perform_of, perform_by, perform_action};
+    ghost use Rattle.rz_machine.specs.Action.{Asks};
+    ghost use Rattle.rz_machine.specs.Way.{way_of};
+    ghost use Rattle.rz_machine.specs.declared.way.Way.TheVariants as ways;
     ghost use Rattle.rz_machine.specs.Ran.{outcome_of};
 
     /// One step, over a table of instructions. A machine that has ended stays.
     /// It refuses for want of memory alone, and then nothing is changed.
     #[tactic(auto, unfolding(crate::specs::State::step))]
     pub fn step<T: InsnTable>(&mut self, alloc: Global) -> Result<(), OutOfMemory>
-        ensures ok { OnOk result (self.new ≡ step_of T.decoder self.old) }
+        ensures ok { OnOk result (self.new ≡ step_of (decoded T.rows) self.old) }
         ensures err { OnErr result (self.new ≡ self.old) }
     {
         if self.end.is_some() {
@@ -89,14 +81,11 @@ impl Machine {
         }
         let mut bytes = [0; 15];
         let count = self.mem.fetch(self.cpu.rip, &mut bytes);
-        let code = &bytes[..count as usize];
-        are_bytes(code);
-        match T::decode(code, self.cpu.rip) {
-            Decoded::Insn { insn, len } => self.perform(
-                alloc,
-                insn,
-                self.cpu.rip.wrapping_add(len as u64),
-            ),
+        match decode::<T>(&bytes[..count as usize], self.cpu.rip) {
+            Decoded::Insn { insn, len } => {
+                let next = self.cpu.rip.wrapping_add(len as u64);
+                self.perform(alloc, &insn, next)
+            }
             Decoded::Short => {
                 self.end = Some(End::Fetch(self.cpu.rip));
                 Ok(())
@@ -111,9 +100,9 @@ impl Machine {
     /// At most `n` steps, over a table of instructions, until the machine has ended.
     /// It refuses for want of memory alone, and then the machine stands after its last whole step.
     pub fn run<T: InsnTable>(&mut self, alloc: Global, n: u64) -> Result<Outcome, OutOfMemory>
-        ensures ok { OnOk result (self.new ≡ after_of T.decoder n self.old) }
+        ensures ok { OnOk result (self.new ≡ after_of (decoded T.rows) n self.old) }
         ensures outcome { IfOk result (λ outcome. outcome ≡ outcome_of self.new.end) }
-        ensures err { OnErr result ((k : ℕ) × (k < n) × (self.new ≡ after_of T.decoder k self.old)) }
+        ensures err { OnErr result ((k : ℕ) × (k < n) × (self.new ≡ after_of (decoded T.rows) k self.old)) }
     {
         for _ in 0..n {
             if self.end.is_some() {
@@ -135,61 +124,50 @@ impl Machine {
     }
 
     // An instruction before `next`.
-    #[tactic(auto, unfolding(crate::specs::Form::carry))]
-    fn perform(&mut self, alloc: Global, insn: Insn, next: u64) -> Result<(), OutOfMemory>
-        requires { IsNamed insn }
-        ensures ok { OnOk result (self.new ≡ perform_of insn next self.old) }
+    #[tactic(auto, unfolding(rz_exec::specs::Form::carry))]
+    fn perform(&mut self, alloc: Global, insn: &Insn, next: u64) -> Result<(), OutOfMemory>
+        requires { IsTrue (is_named insn.now) }
+        ensures ok { OnOk result (self.new ≡ perform_of insn.now next self.old) }
         ensures err { OnErr result (self.new ≡ self.old) }
     {
-        match insn {
-            Insn::Arith {
-                op,
-                w,
-                dst: Place::Reg(Reg::R(dst)),
-                src: Operand::Imm(value),
-            } => self.arith(op, w, dst, value, next),
-            Insn::Mov {
-                w,
-                dst: Place::Reg(Reg::R(dst)),
-                src: Operand::Imm(value),
-            } => {
-                let old = self.cpu.regs[dst as usize];
-                self.cpu.regs[dst as usize] = merge(w, old, value);
-                self.cpu.rip = next;
+        match find_way(insn) {
+            Way::Onward => self.pass(insn, next),
+            Way::Jumps { target } => self.cpu.rip = target,
+            Way::Branches { cond, target } => {
+                self.cpu.rip = if holds(cond, self.cpu.flags) {
+                    target
+                } else {
+                    next
+                }
             }
-            Insn::Jcc { cond, target } => self.branch(cond, target, next),
-            Insn::Jmp { target } => self.cpu.rip = target,
-            Insn::Syscall => return self.call(alloc, next),
-            Insn::Ud2 => self.end = Some(End::Illegal(self.cpu.rip)),
+            Way::BranchesOnRcx { target } => {
+                self.cpu.rip = if self.cpu.regs[RCX] == 0 {
+                    target
+                } else {
+                    next
+                }
+            }
+            Way::Transfers { how } => {
+                if let Some(fault) = transfer(how, next, &mut self.cpu, &mut self.mem) {
+                    self.end = Some(end_by_fault(fault));
+                }
+            }
+            Way::Calls => return self.call(alloc, next),
+            Way::Halts { how } => self.end = Some(end_by_halt(how, self.cpu.rip)),
         }
         Ok(())
     }
 
-    // An operation on a register and a number, before `next`.
-    #[tactic(auto, unfolding(crate::specs::Form::carry))]
-    fn arith(&mut self, op: ArithOp, w: Width, dst: u8, value: u64, next: u64)
-        requires { dst < 16 }
-        ensures { self.new ≡ perform_of (insn.Arith op w (place.Reg (R dst)) (Imm value)) next self.old }
+    // A plain instruction before `next`.
+    fn pass(&mut self, insn: &Insn, next: u64)
+        requires named { IsTrue (is_named insn.now) }
+        requires way { way_of insn.now ≡ ways.Onward }
+        ensures { self.new ≡ perform_by ways.Onward insn.now next self.old }
     {
-        let old = self.cpu.regs[dst as usize];
-        let (value, flags) = arith(op, w, old, value, self.cpu.flags);
-        if writes(op) {
-            self.cpu.regs[dst as usize] = merge(w, old, value);
+        match exec_plain(insn, &mut self.cpu, &mut self.mem) {
+            None => self.cpu.rip = next,
+            Some(fault) => self.end = Some(end_by_fault(fault)),
         }
-        self.cpu.flags = flags;
-        self.cpu.rip = next;
-    }
-
-    // A conditional jump before `next`.
-    #[tactic(auto, unfolding(crate::specs::Form::carry))]
-    fn branch(&mut self, cond: Cond, target: u64, next: u64)
-        ensures { self.new ≡ perform_of (insn.Jcc cond target) next self.old }
-    {
-        self.cpu.rip = if holds(cond, self.cpu.flags) {
-            target
-        } else {
-            next
-        };
     }
 
     // A system call before `next`.
@@ -209,26 +187,24 @@ impl Machine {
     }
 }
 
-// Whether an operation writes its value.
-fn writes(op: ArithOp) -> bool
-    ensures { result ≡ is_written op }
+// The end by a fault.
+fn end_by_fault(fault: Fault) -> End
+    ensures { result ≡ end_of (exception_of fault) }
 {
-    !matches!(op, ArithOp::Cmp)
-}
-
-// A register after a value is written to it at a width.
-fn merge(w: Width, old: u64, value: u64) -> u64
-    ensures { result ≡ merge_of w old value }
-{
-    match w {
-        Width::W8 | Width::W16 => old - mask(w, old) + mask(w, value),
-        Width::W32 | Width::W64 => mask(w, value),
+    match fault {
+        Fault::Memory(at) => End::Memory(at),
+        Fault::Divide => End::Divide,
+        Fault::Popped => End::Popped,
     }
 }
 
-// The items of a slice of bytes are bytes.
-fn are_bytes(bytes: &[u8])
-    ensures { AreBytes bytes.now }
+// The end by an instruction at an address that ends the run.
+fn end_by_halt(how: Halt, here: u64) -> End
+    ensures { result ≡ end_by how here }
 {
-    let _ = bytes;
+    match how {
+        Halt::Ud2 => End::Illegal(here),
+        Halt::Hlt => End::Halted,
+        Halt::Int3 => End::Break,
+    }
 }

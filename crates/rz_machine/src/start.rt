@@ -7,8 +7,9 @@ ghost use Rattle.rz_sys.specs.Input.{IsEmptyInput, empty_input};
 ghost use Rattle.rz_machine.specs.Start.{start as start_of, first_regs, heap_region, stack_region};
 ghost use Rattle.rz_elf.specs.Loaded.{IsLoad, loaded, loaded_region};
 
-use crate::machine::{Cpu, Machine};
+use crate::machine::Machine;
 use rz_elf::elf::{Elf, Load};
+use rz_exec::Cpu;
 use rz_flags::Flags;
 use rz_image::memory::Memory;
 use rz_image::perm::Perm;

@@ -1,9 +1,11 @@
 //! What runs used: the addresses of the instructions that they began, and the pairs of neighbours.
 
-ghost use Rattle.std.specs.Prelude.{◌≡◌, ◌⊎◌, ◌≤◌, ℕ, List, [], not, length, None, OnOk, OnErr, IfOk, IfErr};
+ghost use Rattle.std.specs.Prelude.{◌≡◌, ◌≤◌, ℕ, List, [], not, length, None, OnOk, OnErr, IfOk, IfErr};
 ghost use Rattle.std.specs.Ordering.{nat_cmp};
 ghost use Rattle.std.specs.BTreeSet.{insert_key};
 ghost use Rattle.std.specs.List.Sorted.{IsStrictlySortedBy};
+ghost use Rattle.rz_isa.specs.Decoded.{decoded};
+ghost use Rattle.rz_machine.specs.Calls.Sets.{IsSameOrWith};
 ghost use Rattle.rz_machine.specs.LeftCode.{left_at, StaysInCode};
 ghost use Rattle.rz_machine.specs.Traced.{with_run, kept_in, IsRefused};
 ghost use Rattle.rz_machine.specs.Recorded.{IsUncut, StaysPlausible};
@@ -13,8 +15,8 @@ ghost use Rattle.rz_elf.specs.Loaded.{loaded};
 
 use crate::machine::{End, Machine};
 use crate::start::start;
-use crate::table::InsnTable;
 use rz_elf::elf::Elf;
+use rz_isa::InsnTable;
 use rz_num::{OutOfMemory, Pairs, Words};
 use rz_sys::input::Input;
 use std::alloc::Global;
@@ -162,7 +164,7 @@ impl Record {
     fn add(&mut self, last: Option<u64>, at: u64) -> Result<(), OutOfMemory>
         ensures ok { OnOk result (kept_in self.new ≡ with_begun (kept_in self.old) last at) }
         ensures edges { OnErr result (self.new.edges ≡ self.old.edges) }
-        ensures nodes { OnErr result ((self.new.nodes ≡ self.old.nodes) ⊎ (self.new.nodes ≡ insert_key nat_cmp self.old.nodes at)) }
+        ensures nodes { OnErr result (IsSameOrWith at self.old.nodes self.new.nodes) }
     {
         self.nodes.insert(at)?;
         if let Some(from) = last {
@@ -204,12 +206,16 @@ pub fn trace<T: InsnTable>(
     rec: &mut Record,
 ) -> Result<(), TraceRefusal>
     requires input { IsEmptyInput input.now }
-    ensures added { OnOk result (kept_in rec.new ≡ with_run T.decoder limit (first_state elf.now input.now) (kept_in rec.old)) }
-    ensures stays { OnOk result (StaysInCode T.decoder limit (first_state elf.now input.now)) }
-    ensures refused { IfErr result (IsRefused T.decoder limit (first_state elf.now input.now) (kept_in rec.old) (kept_in rec.new)) }
+    ensures added { OnOk result (kept_in rec.new
+        ≡ with_run (decoded T.rows) limit (first_state elf.now input.now) (kept_in rec.old)) }
+    ensures stays { OnOk result (StaysInCode (decoded T.rows) limit (first_state elf.now input.now)) }
+    ensures refused { IfErr result
+        (IsRefused (decoded T.rows) limit (first_state elf.now input.now) (kept_in rec.old) (kept_in rec.new)) }
     // What is recorded from what stands in the code is plausible, and the run has no cut.
-    ensures plausible { OnOk result (StaysPlausible T.decoder limit (loaded elf.now) (kept_in rec.old) (kept_in rec.new)) }
-    ensures uncut { OnOk result (IsUncut T.decoder rec.new.edges (first_state elf.now input.now) limit) }
+    ensures plausible { OnOk result
+        (StaysPlausible (decoded T.rows) limit (loaded elf.now) (kept_in rec.old) (kept_in rec.new)) }
+    ensures uncut { OnOk result
+        (IsUncut (decoded T.rows) rec.new.edges (first_state elf.now input.now) limit) }
 {
     let mut machine = start(alloc, elf, input)?;
     follow::<T>(alloc, &mut machine, limit, rec)
@@ -233,9 +239,11 @@ fn follow<T: InsnTable>(
     rec: &mut Record,
 ) -> Result<(), TraceRefusal>
     requires { left_at machine.old.end ≡ None }
-    ensures ok { OnOk result (kept_in rec.new ≡ with_run T.decoder limit machine.old (kept_in rec.old)) }
-    ensures stays { OnOk result (StaysInCode T.decoder limit machine.old) }
-    ensures err { IfErr result (IsRefused T.decoder limit machine.old (kept_in rec.old) (kept_in rec.new)) }
+    ensures ok { OnOk result
+        (kept_in rec.new ≡ with_run (decoded T.rows) limit machine.old (kept_in rec.old)) }
+    ensures stays { OnOk result (StaysInCode (decoded T.rows) limit machine.old) }
+    ensures err { IfErr result
+        (IsRefused (decoded T.rows) limit machine.old (kept_in rec.old) (kept_in rec.new)) }
 {
     let mut last = None;
     for _ in 0..limit {

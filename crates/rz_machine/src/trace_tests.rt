@@ -1,12 +1,12 @@
 // Traces of worked programs, and the calls that take memory where there is enough.
 
-use crate::first::First;
 use crate::trace::{AddrSet, EdgeSet, Record, TraceRefusal, trace};
 use rz_elf::elf::Elf;
 use rz_elf::fault::ElfError;
 use rz_elf::read::read_elf;
 use rz_num::{Bytes, put_u64};
 use rz_sys::input::Input;
+use rz_table::Early;
 use std::alloc::Global;
 use std::test::Fail;
 
@@ -39,7 +39,7 @@ fn traces_a_greeting(rt: HostRuntime) -> Result<(), Fail> {
     ];
     let elf = program(alloc, &code)?;
     let mut rec = Record::new(alloc);
-    trace::<First>(alloc, &elf, &Input::empty(alloc), 1_000_000_000, &mut rec)?;
+    trace::<Early>(alloc, &elf, &Input::empty(alloc), 1_000_000_000, &mut rec)?;
     let nodes = rec.nodes.sorted(alloc)?;
     let begun = [
         0x40_1000, 0x40_1005, 0x40_100a, 0x40_100f, 0x40_1014, 0x40_1016, 0x40_101b, 0x40_1020,
@@ -60,7 +60,7 @@ fn traces_a_circle(rt: HostRuntime) -> Result<(), Fail> {
     let alloc = rt.alloc();
     let elf = program(alloc, &[0xe9, 0xfb, 0xff, 0xff, 0xff])?;
     let mut rec = Record::new(alloc);
-    trace::<First>(alloc, &elf, &Input::empty(alloc), 5, &mut rec)?;
+    trace::<Early>(alloc, &elf, &Input::empty(alloc), 5, &mut rec)?;
     assert_eq!(rt; rec.nodes.len(), 1);
     assert!(rt; rec.nodes.contains(0x40_1000));
     assert_eq!(rt; rec.edges.len(), 1);
@@ -77,14 +77,14 @@ fn leaves_the_code(rt: HostRuntime) -> Result<(), Fail> {
     for code in [short.as_slice(), strange.as_slice()] {
         let elf = program(alloc, code)?;
         let mut rec = Record::new(alloc);
-        let left = match trace::<First>(alloc, &elf, &Input::empty(alloc), 1000, &mut rec) {
+        let left = match trace::<Early>(alloc, &elf, &Input::empty(alloc), 1000, &mut rec) {
             Err(TraceRefusal::LeftCode(at)) => Some(at),
             _ => None,
         };
         assert_eq!(rt; left, Some(0x40_1005));
         assert_eq!(rt; rec.nodes.len(), 1);
         let mut first = Record::new(alloc);
-        trace::<First>(alloc, &elf, &Input::empty(alloc), 1, &mut first)?;
+        trace::<Early>(alloc, &elf, &Input::empty(alloc), 1, &mut first)?;
         assert_eq!(rt; first.nodes.len(), 1);
         assert_eq!(rt; first.edges.len(), 0);
     }

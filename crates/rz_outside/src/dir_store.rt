@@ -6,11 +6,13 @@ use crate::transfer::{Stopped, read_first, write_whole};
 use crate::{ReadErr, Store, WriteErr};
 use rz_num::{Bytes, Text};
 use std::alloc::Global;
-use std::fs;
+use std::fs::{self, OpenOptions};
 use std::io::ErrorKind;
+use std::os::unix::fs::OpenOptionsExt;
 use std::rt::Files;
 
-/// Files of the system. It does not tell what they hold.
+/// Files of the system. It does not tell what they hold. A new file that begins as an ELF file may be executed, and a
+/// file that is there keeps its mode.
 #[derive(Drop)]
 pub struct DirStore<'a, R: Files> {
     rt: &'a R,
@@ -78,9 +80,18 @@ fn read_file<R: Files>(rt: &R, alloc: Global, name: &str, max: u64) -> Result<By
     read_first(alloc, &mut file, max)
 }
 
-// Makes a file hold these bytes.
+// The first bytes of an ELF file.
+const ELF_MAGIC: [u8; 4] = [0x7f, b'E', b'L', b'F'];
+
+// Makes a file hold these bytes. A new one may be executed where it is an ELF file; one that is there keeps its mode.
 fn write_file<R: Files>(rt: &R, name: &str, bytes: &[u8]) -> Result<(), WriteErr> {
-    let mut file = match fs::create(rt, name) {
+    let mut options = OpenOptions::new();
+    options
+        .write(true)
+        .create(true)
+        .truncate(true)
+        .mode(new_mode(bytes));
+    let mut file = match options.open(rt, name) {
         Ok(file) => file,
         Err(e) if e.kind() == ErrorKind::OutOfMemory => return Err(WriteErr::OutOfMemory),
         Err(_) => return Err(WriteErr::Failed),
@@ -88,5 +99,14 @@ fn write_file<R: Files>(rt: &R, name: &str, bytes: &[u8]) -> Result<(), WriteErr
     match write_whole(&mut file, bytes) {
         Ok(()) => Ok(()),
         Err(Stopped) => Err(WriteErr::Failed),
+    }
+}
+
+// The permission bits of a new file, before the umask takes some away.
+fn new_mode(bytes: &[u8]) -> u32 {
+    if bytes.starts_with(&ELF_MAGIC) {
+        0o777
+    } else {
+        0o666
     }
 }

@@ -10,6 +10,7 @@ use std::alloc::Global;
 use std::fmt::Display;
 use std::fs;
 use std::io::{self, Print};
+use std::os::unix::fs::PermissionsExt;
 use std::test::Fail;
 
 // One file.
@@ -119,6 +120,37 @@ fn real_files_are_written_and_read(rt: HostRuntime) -> Result<(), Fail> {
         store.write_all(rt.alloc(), &nowhere, &bytes),
         Err(WriteErr::Failed)
     );
+    Ok(())
+}
+
+// Writes a file, and tells the permission bits that it has then.
+fn mode_after(
+    rt: &HostRuntime,
+    store: &mut DirStore<'_, HostRuntime>,
+    name: &str,
+    bytes: &[u8],
+) -> Result<u32, Fail> {
+    let text = Text::from_slice(rt.alloc(), name)?;
+    store.write_all(rt.alloc(), &text, &Bytes::from_slice(rt.alloc(), bytes)?)?;
+    Ok(fs::metadata(rt, name)?.permissions().mode())
+}
+
+#[test]
+fn new_elf_files_may_be_executed(rt: HostRuntime) -> Result<(), Fail> {
+    let mut store = DirStore::new(rt.alloc(), &rt);
+    let elf = mode_after(&rt, &mut store, "rz_outside_elf", &[0x7f, 0x45, 0x4c, 0x46])?;
+    assert_eq!(rt; elf & 0o100, 0o100);
+    let text = mode_after(&rt, &mut store, "rz_outside_text", &[0x45, 0x4c, 0x46])?;
+    assert_eq!(rt; text & 0o111, 0);
+    let kept = mode_after(
+        &rt,
+        &mut store,
+        "rz_outside_text",
+        &[0x7f, 0x45, 0x4c, 0x46],
+    )?;
+    assert_eq!(rt; kept, text);
+    fs::remove_file(&rt, "rz_outside_elf")?;
+    fs::remove_file(&rt, "rz_outside_text")?;
     Ok(())
 }
 

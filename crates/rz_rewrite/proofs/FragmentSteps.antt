@@ -1,11 +1,11 @@
 -- A walk over nodes that gathers their fragments.
 use Rattle.std.proofs.Common.{◌≡◌, ℕ, ◌+◌, ◌<◌, ◌≤◌, List, [], ◌∷◌, ◌++◌, length, get_or, drop, Option, sym, ap, ap₂, ◌∙◌, drop-cons, add-one, append-nil, append_assoc}
 use Rattle.std.proofs.lemmas.List.{drop_all}
-use Rattle.rz_machine.specs.declared.decode.Decoded.{Decoded}
+use Rattle.rz_isa.specs.declared.decoding.Decoded.{Decoded}
 use Rattle.rz_rewrite.specs.declared.items.Fragment.{Fragment}
-use Rattle.rz_machine.specs.Insn.{Decoder}
+use Rattle.rz_isa.specs.Nodes.{Decoder}
 use Rattle.rz_machine.specs.Kept.{Edges}
-use Rattle.rz_machine.specs.Nodes.{Code, spelled_at}
+use Rattle.rz_isa.specs.Nodes.{Code, spelled_at}
 use Rattle.rz_rewrite.specs.Fragments.{items_for, trimmed, first_node, fragments}
 
 module _ (dec : Decoder) (m : Code) (edges : Edges) (nodes : List ℕ) (i : ℕ) where

@@ -10,8 +10,8 @@ use Rattle.rz_elf.specs.AddedRange.{scratch_size}
 use Rattle.rz_elf.specs.WrittenFile.{Parts, added_regions, without_code}
 use Rattle.rz_image.specs.Perm.{read_write, read_only, read_execute}
 use Rattle.rz_machine.proofs.Placed.{BytesAt, bytes_from}
-use Rattle.rz_image.proofs.Zeros.{length-zeros}
-use Rattle.rz_image.proofs.Cells.{apart, inside, IsFixed}
+use Rattle.rz_image.specs.Laws.Zeros.{length-zeros}
+use Rattle.rz_image.specs.Laws.Cells.{apart, inside, IsFixed}
 
 -- two lists of regions
 pub all_append : (P : Region → Type 0) (m n : Regions) → AllByRecursion P m → AllByRecursion P n → AllByRecursion P (m ++ n)

@@ -1,60 +1,96 @@
--- The new file of a thin file.
-use Rattle.std.proofs.Common.{◌≡◌, ℕ, ◌+◌, ◌≤◌, List, length, sym, ap, ◌∙◌, subst, arith}
-use Rattle.rz_elf.specs.declared.elf.Elf.{Elf}
-use Rattle.rz_elf.specs.WrittenFile.{Parts, written_file}
-use Rattle.rz_machine.specs.Kept.{Kept}
+-- The new file of an accepted file: what it is made of, and that it keeps the file's runs.
+use Rattle.std.proofs.Common.{◌≡◌, ℕ, ◌<◌, List, length, Option, None, sym, ap, ◌∙◌, subst}
+use Rattle.std.specs.Prelude.{slice_index}
+use Rattle.std.specs.List.{AllByRecursion}
 use Rattle.rz_elf.specs.Elf.{Image, image_of}
-use Rattle.rz_machine.specs.First.{decode_first}
-use Rattle.rz_machine.specs.TableLaws.{AreBytes}
-use Rattle.rz_elf.specs.AddedRange.{Added}
-use Rattle.rz_machine.specs.Added.{added}
-use Rattle.rz_machine.specs.Keeps.{Keeps}
-use Rattle.rz_elf.specs.Loaded.{loaded}
-use Rattle.rz_rewrite.specs.ThinElf.{thin_elf}
+use Rattle.rz_elf.specs.Loaded.{ElfFile, IsRead}
 use Rattle.rz_elf.specs.PlainImage.{IsPlainImage}
-use Rattle.rz_machine.specs.Nodes.{code_in, IsPlausible}
-use Rattle.rz_rewrite.specs.Rewritten.{HasRoom, IsRewritten}
-use Rattle.rz_rewrite.specs.Thin.{IsThin, thin_base}
-use Rattle.rz_machine.specs.WrittenFile.{Inert}
-use Rattle.rz_rewrite.proofs.AddedLaws.{added-thin}
-use Rattle.rz_elf.proofs.PlainAccepted.{accepted_plain}
-use Rattle.rz_elf.proofs.Reading.{loaded-elf_of}
-use Rattle.rz_rewrite.proofs.RewrittenLaws.{lie}
-use Rattle.rz_rewrite.proofs.ThinKept.{thin_room, thin_kept}
-use Rattle.rz_rewrite.proofs.ThinLoads.{thin_fault, elf_of-thin}
+use Rattle.rz_elf.specs.AddedRange.{tables_size, code_size, stubs_size, parts_below}
+use Rattle.rz_elf.specs.Room.{extent_of, no_room}
+use Rattle.rz_elf.specs.WrittenFile.{Parts, new_image}
+use Rattle.rz_elf.specs.Laws.PlainAccepted.{accepted_plain}
+use Rattle.rz_isa.specs.declared.rows.Row.{Row}
+use Rattle.rz_isa.specs.Decoded.{decoded}
+use Rattle.rz_isa.specs.Nodes.{Decoder}
+use Rattle.rz_rewrite.specs.Calls.Table.{TableFacts}
+use Rattle.rz_machine.specs.Kept.{Kept, Edges, sorted}
+use Rattle.rz_machine.specs.Nodes.{code_in}
+use Rattle.rz_machine.specs.Added.{node_count, site_count, site_edge_count, added, layout_of}
+use Rattle.rz_machine.specs.Keeps.{Keeps, KeepsRun}
+use Rattle.rz_machine.specs.Placement.{IsPlaced}
+use Rattle.rz_machine.specs.Start.{start}
+use Rattle.rz_rewrite.specs.declared.added.AddedRange.{AddedRange}
+use Rattle.rz_rewrite.specs.Calls.Plan.{IsPlanned, kept_set}
+use Rattle.rz_rewrite.specs.Laws.Sites.{no_sites, no_site_edges}
+use Rattle.rz_rewrite.specs.Places.{range_of}
+use Rattle.rz_rewrite.specs.Reach.{first_out_of_reach}
+use Rattle.rz_rewrite.specs.Refusals.{rip_reach_of, no_room_for, size_for}
+use Rattle.rz_rewrite.specs.Rewritten.{CanRewrite, HasNoTransfers, IsInReach, IsFit, HasPlacement, IsRewritten, place_of}
+use Rattle.rz_rewrite.proofs.ByteLists.{each_byte}
+use Rattle.rz_rewrite.proofs.PartsFit.{has_room}
+use Rattle.rz_rewrite.proofs.KeepsWritten.{placed_written, keeps_written}
 
--- the condition of rewriting
-abbrev Can : Image → Kept → Type 0
-Can i kept = IsPlausible decode_first (code_in i.loads) i.entry kept
+-- what is read of a file loads a plain image
+pub plain_read : (elf : ElfFile) (bytes : List ℕ) → IsRead elf → bytes ≡ elf.bytes → ((i : ℕ) → slice_index bytes i < 256) → IsPlainImage (image_of elf.bytes)
+plain_read elf bytes is same each = accepted_plain elf.bytes (subst (AllByRecursion (λ b. b < 256)) same (each_byte bytes each)) is.accepted
 
-module _ (elf : Elf) (kept : Kept) (thin : IsThin elf.bytes) (bytes : AreBytes elf.bytes) (read : elf ≡ thin_elf elf.bytes) (can : Can (loaded elf) kept) where
-  image : loaded elf ≡ image_of elf.bytes
-  image = ap loaded (read ∙ sym (elf_of-thin elf.bytes thin)) ∙ loaded-elf_of elf.bytes
+-- what is planned is fit
+pub fit_of : (dec : Decoder) (x : List ℕ) (nodes : List ℕ) (edges : Edges) (r : AddedRange) → IsPlanned dec x nodes edges r → IsFit dec (image_of x) (kept_set nodes edges)
+fit_of dec x nodes edges r q =
+    record { plain = q.plain; plausible = q.plausible; transfers = q.transfers; reach = q.reach; room = has_room dec x (kept_set nodes edges) q.room }
 
-  can_image : Can (image_of elf.bytes) kept
-  can_image = subst (λ i. Can i kept) image can
+module _ (rows : List Row) (facts : TableFacts rows) (x w : List ℕ) (kept : Kept) (fit : IsFit (decoded rows) (image_of x) kept) (parts : Parts) (entry : ℕ) (are : IsRewritten rows (image_of x) kept parts entry)
+    (image : image_of w ≡ new_image (image_of x) parts entry) (new_plain : IsPlainImage (new_image (image_of x) parts entry)) where
+  abbrev written_dec : Decoder
+  written_dec = decoded rows
 
-  -- what is loaded of it is plain
-  pub plain : IsPlainImage (loaded elf)
-  plain = subst IsPlainImage (sym image) (accepted_plain elf.bytes bytes (thin_fault elf.bytes thin))
+  pub placed_file : HasPlacement written_dec x w kept
+  placed_file =
+      let P : Image → Type 0 = λ i. IsPlaced written_dec (image_of x) i kept (layout_of written_dec (image_of x) kept) (place_of rows (image_of x) kept) in
+      (place_of rows (image_of x) kept, subst P (sym image) (placed_written rows facts (image_of x) kept parts entry fit are new_plain))
 
-  -- there is room below its code
-  pub room : HasRoom decode_first (loaded elf) kept
-  room = subst (λ i. HasRoom decode_first i kept) (sym image) (thin_room elf.bytes kept thin bytes can_image).2
+  pub kept_file : Keeps written_dec x w kept
+  kept_file input valid =
+      let P : Image → Type 0 = λ i. KeepsRun written_dec kept.edges (layout_of written_dec (image_of x) kept) (start (image_of x) input) (start i input) in
+      subst P (sym image) (keeps_written rows facts (image_of x) kept parts entry fit are new_plain input)
 
-  module _ (parts : Parts) (entry : ℕ) (are : IsRewritten decode_first (loaded elf) kept parts entry) where
-    are_image : IsRewritten decode_first (image_of elf.bytes) kept parts entry
-    are_image = subst (λ i. IsRewritten decode_first i kept parts entry) image are
+-- the first of the nodes in order whose operand is out of reach
+pub first_reach : (dec : Decoder) (x : List ℕ) (kept : Kept) (nodes : List ℕ) → nodes ≡ kept.nodes → sorted kept.nodes ≡ kept.nodes
+    → (r : Option ℕ) → r ≡ first_out_of_reach dec (code_in (image_of x).loads) nodes → rip_reach_of dec x kept ≡ r
+first_reach dec x kept nodes same order r is = ap (first_out_of_reach dec (code_in (image_of x).loads)) (order ∙ sym same) ∙ sym is
 
-    -- the parts end where the code begins
-    pub below : parts.base + 4096 + length parts.tables + length parts.code + length parts.stubs ≤ thin_base
-    below =
-        let room_image = (thin_room elf.bytes kept thin bytes can_image).2 in
-        let ends = (lie decode_first (image_of elf.bytes) kept room_image parts entry are_image.parts_added).stop in
-        let at : (added decode_first (image_of elf.bytes) kept).stop ≡ thin_base =
-        ap (λ y. (added decode_first (image_of y) kept).stop) thin.file ∙ ap (λ (b : Added). b.stop) (added-thin thin.code kept thin.some thin.few) in
-        omega (arith, ends, at)
+-- where no transfer is kept there are no sites: sizes and places are those of the nodes alone
+module _ (dec : Decoder) (x : List ℕ) (kept : Kept) (can : CanRewrite dec (image_of x) kept) (none : HasNoTransfers dec (image_of x) kept) (nodes : List ℕ) (same : nodes ≡ kept.nodes) (order : sorted kept.nodes ≡ kept.nodes) where
+  abbrev n : ℕ
+  n = length nodes
 
-    -- the new file keeps the runs, and is inert
-    pub kept_file : (w : List ℕ) → w ≡ written_file elf.bytes parts entry → Keeps decode_first elf.bytes w kept × Inert decode_first elf.bytes w kept
-    kept_file w written = thin_kept elf.bytes w kept parts entry thin bytes can_image are_image written
+  pub count_is : n ≡ node_count kept
+  count_is = ap length (same ∙ sym order)
+
+  sites_none : 0 ≡ site_count dec (image_of x) kept
+  sites_none = ap length (sym (no_sites dec (image_of x) kept can none))
+
+  edges_none : 0 ≡ site_edge_count dec (image_of x) kept
+  edges_none = ap length (sym (no_site_edges dec (image_of x) kept can none))
+
+  pub room_is : no_room (extent_of x) (size_for n 0 0) ≡ no_room_for dec x kept
+  room_is = λ i. no_room (extent_of x) (size_for (count_is i) (sites_none i) (edges_none i))
+
+  pub range_is : parts_below (tables_size 0 0) (code_size n 0 0) (stubs_size n) (extent_of x).floor ≡ added dec (image_of x) kept
+  range_is = λ i. parts_below (tables_size (sites_none i) (edges_none i)) (code_size (count_is i) (sites_none i) (edges_none i)) (stubs_size (count_is i)) (extent_of x).floor
+
+  set_is : kept_set nodes kept.edges ≡ kept
+  set_is = ap (λ l. kept_set l kept.edges) same
+
+  -- so they are planned
+  pub planned : (r : AddedRange) → IsPlainImage (image_of x) → rip_reach_of dec x kept ≡ None → no_room (extent_of x) (size_for n 0 0) ≡ None
+      → range_of r ≡ parts_below (tables_size 0 0) (code_size n 0 0) (stubs_size n) (extent_of x).floor → IsPlanned dec x nodes kept.edges r
+  planned r plain reach free is = record {
+    plain = plain;
+    plausible = subst (λ k. CanRewrite dec (image_of x) k) (sym set_is) can;
+    transfers = subst (λ k. HasNoTransfers dec (image_of x) k) (sym set_is) none;
+    reach = subst (λ k. IsInReach dec (image_of x) k) (sym set_is) reach;
+    order = same ∙ sym order ∙ ap sorted (sym same);
+    room = ap (no_room_for dec x) set_is ∙ sym room_is ∙ free;
+    range_is = is ∙ range_is ∙ ap (added dec (image_of x)) (sym set_is);
+  }

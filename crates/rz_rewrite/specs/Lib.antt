@@ -1,10 +1,8 @@
-pub mod Thin
-pub mod Greeting
 pub mod Fragments
-pub mod ThinElf
-pub mod ThinFault
-pub mod ThinPage
 pub mod Rewritten
+pub mod Reach
+pub mod Refusals
 pub mod Spellable
 pub mod Places
-pub mod NewParts
+pub mod Calls
+pub mod Laws

@@ -1,43 +1,45 @@
 -- What the added parts hold where a file is rewritten: the fragments and the stubs of the kept nodes.
-use Rattle.std.specs.Prelude.{◌≡◌, ℕ, ◌+◌, ◌*◌, ◌<◌, ◌≤◌, true, List, ◌++◌, length}
-use Rattle.std.specs.List.{AllByRecursion}
+use Rattle.std.specs.Prelude.{◌≡◌, ℕ, ◌+◌, ◌*◌, ◌≤◌, true, List, ◌++◌, length, None}
+use Rattle.rz_isa.specs.declared.rows.Row.{Row}
+use Rattle.rz_isa.specs.declared.decoding.Decoded.TheVariants as decodeds
+use Rattle.rz_isa.specs.declared.instruction.Insn.{Insn}
+use Rattle.rz_isa.specs.Decoded.{decoded}
+use Rattle.rz_isa.specs.Nodes.{Decoder, spelled_at}
 use Rattle.rz_rewrite.specs.declared.items.Fragment.{Fragment}
-use Rattle.rz_rewrite.specs.declared.items.Label.{Label}
 use Rattle.rz_sys.specs.declared.input.Input.{Input}
 use Rattle.rz_image.specs.Memory.{IsInside}
 use Rattle.rz_elf.specs.Elf.{Image, image_of}
-use Rattle.rz_machine.specs.Insn.{Decoder}
+use Rattle.rz_machine.specs.declared.way.Transfer.{Transfer}
+use Rattle.rz_machine.specs.declared.way.Way.TheVariants.{Transfers}
+use Rattle.rz_machine.specs.Way.{way_of}
 use Rattle.rz_machine.specs.Kept.{Kept, sorted, has_node}
 use Rattle.rz_machine.specs.Nodes.{code_in, IsPlausible}
 use Rattle.rz_machine.specs.Added.{node_count, site_count, site_edge_count, added, layout_of}
 use Rattle.rz_elf.specs.AddedRange.{scratch_size, tables_size, code_size, stubs_size, lowest, page_floor}
-use Rattle.rz_machine.specs.WrittenFile.{IsAdded, Inert}
-use Rattle.rz_elf.specs.WrittenFile.{Parts, new_image, written_file}
+use Rattle.rz_machine.specs.WrittenFile.{IsAdded}
+use Rattle.rz_elf.specs.WrittenFile.{Parts, new_image}
 use Rattle.rz_machine.specs.Start.{start}
-use Rattle.rz_rewrite.specs.Thin.{IsThin}
-use Rattle.rz_machine.specs.Keeps.{KeepsRun, Keeps}
+use Rattle.rz_machine.specs.Keeps.{KeepsRun}
+use Rattle.rz_machine.specs.Placement.{IsPlaced}
 use Rattle.rz_machine.specs.Pace.{Paced}
 use Rattle.rz_elf.specs.PlainImage.{IsPlainImage}
 use Rattle.rz_rewrite.specs.Fragments.{fragments, place_in, address_of, fragments_bytes}
+use Rattle.rz_rewrite.specs.Reach.{first_out_of_reach}
 
--- a kept set that a new file can be written for: one that could be left by traces of the image
+-- ---- what a new file can be written for
+
+-- a kept set that could be left by traces of the image
 abbrev pub CanRewrite : Decoder → Image → Kept → Type 0
 CanRewrite dec x kept = IsPlausible dec (code_in x.loads) x.entry kept
 
--- the fragments of the kept nodes
-abbrev pub fragments_of : Decoder → Image → Kept → List Fragment
-fragments_of dec x kept = fragments dec (code_in x.loads) kept.edges (sorted kept.nodes)
+-- no call, no return and no jump by an operand is kept, since no fragment is made for one yet
+abbrev pub HasNoTransfers : Decoder → Image → Kept → Type 0
+HasNoTransfers dec x kept =
+    (a : ℕ) → has_node kept.nodes a ≡ true → (y : Insn) (len : ℕ) → spelled_at dec (code_in x.loads) a ≡ decodeds.Insn y len → (t : Transfer) → way_of y ≡ Transfers t → ⊥
 
--- where the fragment of an address stands
-abbrev pub place_of : Decoder → Image → Kept → ℕ → ℕ
-place_of dec x kept a = place_in (fragments_of dec x kept) (added dec x kept).code a
-
--- the bytes that the code part begins with
-abbrev pub code_of_nodes : Decoder → Image → Kept → List ℕ
-code_of_nodes dec x kept =
-    let a = added dec x kept in
-    let frags = fragments_of dec x kept in
-    fragments_bytes (address_of frags (sorted kept.nodes) a) a.code frags
+-- what the kept instructions name relative to RIP is in reach from the added range
+abbrev pub IsInReach : Decoder → Image → Kept → Type 0
+IsInReach dec x kept = first_out_of_reach dec (code_in x.loads) (sorted kept.nodes) ≡ None
 
 -- the parts fit below the lowest load
 abbrev pub HasRoom : Decoder → Image → Kept → Type 0
@@ -47,44 +49,64 @@ HasRoom dec x kept =
     let e = site_edge_count dec x kept in
     scratch_size + tables_size j e + code_size n j e + stubs_size n ≤ page_floor (lowest x.loads)
 
--- the parts hold the fragments and the stubs, and the new entry is the fragment of the old one
-pub record IsRewritten (dec : Decoder) (x : Image) (kept : Kept) (parts : Parts) (entry : ℕ) : Type 0 where
-  pub parts_added : IsAdded (added dec x kept) (sorted kept.nodes) parts entry
-  pub fill : List ℕ
-  pub code : parts.code ≡ code_of_nodes dec x kept ++ fill
-  pub begins : entry ≡ place_of dec x kept x.entry
+-- all of it, for a plain image
+pub record IsFit (dec : Decoder) (x : Image) (kept : Kept) : Type 0 where
+  pub plain : IsPlainImage x
+  pub plausible : CanRewrite dec x kept
+  pub transfers : HasNoTransfers dec x kept
+  pub reach : IsInReach dec x kept
+  pub room : HasRoom dec x kept
 
--- each file that is so rewritten keeps each run of the original
-abbrev pub RewrittenKeeps : Decoder → Type 0
-RewrittenKeeps dec =
-    (x : Image) (kept : Kept) (parts : Parts) (entry : ℕ) → CanRewrite dec x kept → IsPlainImage x → HasRoom dec x kept → IsRewritten dec x kept parts entry → (input : Input)
-    → KeepsRun dec kept.edges (layout_of dec x kept) (start x input) (start (new_image x parts entry) input)
+-- ---- what stands in it
+
+-- the fragments of the kept nodes
+abbrev pub fragments_of : Decoder → Image → Kept → List Fragment
+fragments_of dec x kept = fragments dec (code_in x.loads) kept.edges (sorted kept.nodes)
+
+-- where the fragment of an address stands
+abbrev pub place_of : List Row → Image → Kept → ℕ → ℕ
+place_of rows x kept a = place_in rows (fragments_of (decoded rows) x kept) (added (decoded rows) x kept).code a
+
+-- the bytes that the code part begins with
+abbrev pub code_of_nodes : List Row → Image → Kept → List ℕ
+code_of_nodes rows x kept =
+    let a = added (decoded rows) x kept in
+    let frags = fragments_of (decoded rows) x kept in
+    fragments_bytes rows (address_of rows frags (sorted kept.nodes) a) a.code frags
+
+-- the parts hold the fragments and the stubs, and the new entry is the fragment of the old one
+pub record IsRewritten (rows : List Row) (x : Image) (kept : Kept) (parts : Parts) (entry : ℕ) : Type 0 where
+  pub parts_added : IsAdded (added (decoded rows) x kept) (sorted kept.nodes) parts entry
+  pub fill : List ℕ
+  pub code : parts.code ≡ code_of_nodes rows x kept ++ fill
+  pub begins : entry ≡ place_of rows x kept x.entry
+
+-- what is loaded of the new file w has some place for each kept node, where its fragment stands, and the stubs in theirs
+abbrev pub HasPlacement : Decoder → List ℕ → List ℕ → Kept → Type 0
+HasPlacement dec x w kept =
+    (place : ℕ → ℕ) × IsPlaced dec (image_of x) (image_of w) kept (layout_of dec (image_of x) kept) place
+
+-- ---- laws
+
+-- each file that is so rewritten, and loads a plain image, keeps each run of the original
+abbrev pub RewrittenKeeps : List Row → Type 0
+RewrittenKeeps rows =
+    (x : Image) (kept : Kept) (parts : Parts) (entry : ℕ) → IsFit (decoded rows) x kept → IsRewritten rows x kept parts entry → IsPlainImage (new_image x parts entry) → (input : Input)
+    → KeepsRun (decoded rows) kept.edges (layout_of (decoded rows) x kept) (start x input) (start (new_image x parts entry) input)
 
 -- and takes one to `bound` steps for each step of it
-abbrev pub RewrittenPaced : Decoder → ℕ → Type 0
-RewrittenPaced dec bound =
-    (x : Image) (kept : Kept) (parts : Parts) (entry : ℕ) → CanRewrite dec x kept → IsPlainImage x → HasRoom dec x kept → IsRewritten dec x kept parts entry → (input : Input)
-    → Paced dec kept.edges (layout_of dec x kept) (λ a. bound) (start x input) (start (new_image x parts entry) input)
+abbrev pub RewrittenPaced : List Row → ℕ → Type 0
+RewrittenPaced rows bound =
+    (x : Image) (kept : Kept) (parts : Parts) (entry : ℕ) → IsFit (decoded rows) x kept → IsRewritten rows x kept parts entry → IsPlainImage (new_image x parts entry) → (input : Input)
+    → Paced (decoded rows) kept.edges (layout_of (decoded rows) x kept) (λ a. bound) (start x input) (start (new_image x parts entry) input)
 
--- fragments take at most 32 bytes a node, wherever they stand and whatever their labels name
-abbrev pub FragmentsFit : Decoder → Type 0
-FragmentsFit dec =
-    (at : Label → ℕ) (from : ℕ) (x : Image) (kept : Kept) → length (fragments_bytes at from (fragments_of dec x kept)) ≤ 32 * node_count kept
+-- fragments take at most 32 bytes a node, wherever they stand and whatever low addresses their labels name
+abbrev pub FragmentsFit : List Row → Type 0
+FragmentsFit rows =
+    (x : Image) (kept : Kept) → IsFit (decoded rows) x kept → length (code_of_nodes rows x kept) ≤ 32 * node_count kept
 
--- where there is room, the fragment of a kept node lies in the code part
-abbrev pub PlacesInCode : Decoder → Type 0
-PlacesInCode dec =
-    (x : Image) (kept : Kept) → HasRoom dec x kept → (a : ℕ) → has_node kept.nodes a ≡ true
-    → IsInside (layout_of dec x kept).code (place_of dec x kept a)
-
--- a file that is written so for a thin file of bytes keeps its runs, and is inert besides
-abbrev pub ThinFilesKept : Decoder → Type 0
-ThinFilesKept dec =
-    (x w : List ℕ) (kept : Kept) (parts : Parts) (entry : ℕ) → IsThin x → AllByRecursion (λ b. b < 256) x → CanRewrite dec (image_of x) kept
-    → IsRewritten dec (image_of x) kept parts entry → w ≡ written_file x parts entry → Keeps dec x w kept × Inert dec x w kept
-
--- a thin file has 1 to 65,536 kept nodes, and room below its code for their parts
-abbrev pub ThinFilesHaveRoom : Decoder → Type 0
-ThinFilesHaveRoom dec =
-    (x : List ℕ) (kept : Kept) → IsThin x → AllByRecursion (λ b. b < 256) x → CanRewrite dec (image_of x) kept
-    → (1 ≤ node_count kept) × (node_count kept ≤ 65536) × HasRoom dec (image_of x) kept
+-- the fragment of a kept node lies in the code part
+abbrev pub PlacesInCode : List Row → Type 0
+PlacesInCode rows =
+    (x : Image) (kept : Kept) → IsFit (decoded rows) x kept → (a : ℕ) → has_node kept.nodes a ≡ true
+    → IsInside (layout_of (decoded rows) x kept).code (place_of rows x kept a)

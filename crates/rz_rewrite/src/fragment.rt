@@ -1,22 +1,26 @@
 //! Fragments: the items that stand for each kept instruction.
 
-ghost use Rattle.std.specs.Prelude.{◌≡◌, ◌+◌, ◌^◌, ◌<◌, [], ◌∷◌, ◌++◌, length, drop, None, All, IfOk};
+ghost use Rattle.std.specs.Prelude.{◌≡◌, false, ◌+◌, ◌^◌, ◌<◌, [], ◌∷◌, ◌++◌, length, drop, None, All, IfOk};
+ghost use Rattle.rz_elf.specs.Elf.{image_of};
 ghost use Rattle.rz_rewrite.specs.declared.items.Item.TheVariants as item;
-ghost use Rattle.rz_machine.specs.First.{decode_first};
-ghost use Rattle.rz_machine.specs.Insn.{mov_number as mov_number_of};
+ghost use Rattle.rz_isa.specs.Decoded.{decoded};
+ghost use Rattle.rz_isa.specs.Nodes.{spelled_at};
+ghost use Rattle.rz_machine.specs.Placement.{mov_number as mov_number_of};
 ghost use Rattle.rz_rewrite.specs.Fragments.{items_for, items_of, is_following as is_following_label, first_node, fragments, to_label, trimmed};
-ghost use Rattle.rz_machine.specs.Nodes.{code_in, spelled_at};
-ghost use Rattle.rz_machine.specs.TableLaws.{AreBytes};
+ghost use Rattle.rz_machine.specs.Nodes.{code_in};
+ghost use Rattle.rz_rewrite.specs.Calls.Plan.{AreInReach};
+ghost use Rattle.rz_rewrite.specs.Reach.{is_out_of_reach, first_out_of_reach as first_out_of_reach_of};
 ghost use Rattle.rz_rewrite.specs.Spellable.{IsDecodedSpellable, IsFragmentSpellable};
 
 use crate::items::{Fragment, Item, Items, Label};
-use rz_image::memory::Memory;
-use rz_machine::decode::Decoded;
-use rz_machine::first::First;
-use rz_machine::insn::{Insn, Operand, Place, Reg};
-use rz_machine::table::InsnTable;
+use crate::law::table_facts;
+use rz_decode::decode;
+use rz_elf::code::code_at;
+use rz_elf::elf::Elf;
+use rz_isa::{Decoded, Insn, InsnTable, Operand, Place, Reg, rip_target};
 use rz_machine::trace::EdgeSet;
-use rz_num::{OutOfMemory, Width};
+use rz_machine::way::{Way, find_way};
+use rz_num::{OutOfMemory, Width, are_bytes};
 use std::alloc::Global;
 use std::marker::Model;
 
@@ -44,22 +48,25 @@ impl Fragments {
     }
 }
 
-/// The fragments of nodes, whose instructions stand in a memory, for the kept edges. Where nothing is decoded at a
-/// node, its fragment ends the run. It refuses for want of memory alone.
-pub fn fragments_of(
+/// The fragments of nodes of a file, for the kept edges. Where nothing is decoded at a node, its fragment ends the run.
+/// It refuses for want of memory alone.
+pub fn fragments_of<T: InsnTable>(
     alloc: Global,
-    memory: &Memory,
+    elf: &Elf,
     nodes: &[u64],
     edges: &EdgeSet,
 ) -> Result<Fragments, OutOfMemory>
     requires low { All (λ a. a < 2 ^ 31) nodes.now }
-    ensures value { IfOk result (λ list. list ≡ fragments decode_first (code_in memory.now) edges.now nodes.now) }
-    ensures spellable { IfOk result (λ list. All IsFragmentSpellable list) }
+    requires reach { AreInReach (decoded T.rows) (code_in (image_of elf.now.bytes).loads) nodes.now }
+    ensures value { IfOk result (λ list.
+        list ≡ fragments (decoded T.rows) (code_in (image_of elf.now.bytes).loads) edges.now nodes.now) }
+    ensures spellable { IfOk result (λ list. All (IsFragmentSpellable T.rows) list) }
 {
+    table_facts::<T>();
     let mut items = Vec::new(alloc);
     for i in 0..nodes.len() {
         let at = nodes[i];
-        let decoded = decoded_at(memory, at);
+        let decoded = decoded_at::<T>(elf, at);
         let following = node_after(nodes, i);
         items.push(fragment(alloc, at, &decoded, edges, following)?)?;
     }
@@ -67,22 +74,43 @@ pub fn fragments_of(
 }
 
 // What the executable bytes at an address spell.
-fn decoded_at(memory: &Memory, at: u64) -> Decoded
-    ensures value { result ≡ spelled_at decode_first (code_in memory.now) at }
-    ensures spellable { IsDecodedSpellable result }
+fn decoded_at<T: InsnTable>(elf: &Elf, at: u64) -> Decoded
+    ensures value { result ≡ spelled_at (decoded T.rows) (code_in (image_of elf.now.bytes).loads) at }
+    ensures spellable { is_out_of_reach result ≡ false → IsDecodedSpellable T.rows result }
 {
+    table_facts::<T>();
     let mut out = [0; 15];
-    let n = memory.fetch(at, &mut out);
+    let n = code_at(elf, at, &mut out);
     let bytes = &out[..n as usize];
     are_bytes(bytes);
-    First::decode(bytes, at)
+    decode::<T>(bytes, at)
 }
 
-// The items of a slice of bytes are bytes.
-pub(crate) fn are_bytes(bytes: &[u8])
-    ensures { AreBytes bytes.now }
+/// The first of these nodes of a file whose instruction names an address of 2^31 or more relative to RIP, if there is
+/// one. It takes no memory.
+pub fn first_out_of_reach<T: InsnTable>(elf: &Elf, nodes: &[u64]) -> Option<u64>
+    ensures { result ≡ first_out_of_reach_of
+        (decoded T.rows) (code_in (image_of elf.now.bytes).loads) nodes.now }
 {
-    let _ = bytes;
+    for at in nodes {
+        if leaves_reach(&decoded_at::<T>(elf, *at)) {
+            return Some(*at);
+        }
+    }
+    None
+}
+
+// Whether what is decoded names an address of 2^31 or more relative to RIP.
+fn leaves_reach(decoded: &Decoded) -> bool
+    ensures { result ≡ is_out_of_reach decoded.now }
+{
+    match decoded {
+        Decoded::Insn { insn, .. } => match rip_target(insn) {
+            Some(to) => to >= 0x8000_0000,
+            None => false,
+        },
+        Decoded::Short | Decoded::Unknown => false,
+    }
 }
 
 // The node after the one at a place.
@@ -129,33 +157,42 @@ fn sequence(
 ) -> Result<Items, OutOfMemory>
     ensures { IfOk result (λ items. items ≡ trimmed following (items_of edges.now at next insn.now)) }
 {
-    match *insn {
-        Insn::Jcc { cond, target } => {
+    match find_way(insn) {
+        Way::Onward => {
+            let to = label(edges, at, next);
+            going_on(alloc, &[Item::Whole(*insn)], to, following)
+        }
+        Way::Jumps { target } => {
+            let to = label(edges, at, target);
+            Items::from_slice(alloc, &[Item::Jump { cond: None, to }])
+        }
+        Way::Branches { cond, target } => {
             let branch = Item::Jump {
                 cond: Some(cond),
                 to: label(edges, at, target),
             };
             going_on(alloc, &[branch], label(edges, at, next), following)
         }
-        Insn::Jmp { target } => {
-            let to = label(edges, at, target);
-            Items::from_slice(alloc, &[Item::Jump { cond: None, to }])
-        }
-        Insn::Syscall => {
-            let saved_next = Item::Whole(mov_number(1, next));
-            let to = label(edges, at, next);
+        Way::BranchesOnRcx { target } => {
+            let branch = Item::Jrcxz { to: Label::Item(2) };
+            let onward = Item::Jump {
+                cond: None,
+                to: label(edges, at, next),
+            };
             going_on(
                 alloc,
-                &[Item::Whole(Insn::Syscall), saved_next],
-                to,
+                &[branch, onward],
+                label(edges, at, target),
                 following,
             )
         }
-        Insn::Ud2 => Items::from_slice(alloc, &[Item::Whole(Insn::Ud2)]),
-        plain => {
+        Way::Transfers { .. } => Items::from_slice(alloc, &[Item::Whole(Insn::Ud2)]),
+        Way::Calls => {
+            let saved_next = Item::Whole(mov_number(1, next));
             let to = label(edges, at, next);
-            going_on(alloc, &[Item::Whole(plain)], to, following)
+            going_on(alloc, &[Item::Whole(*insn), saved_next], to, following)
         }
+        Way::Halts { .. } => Items::from_slice(alloc, &[Item::Whole(*insn)]),
     }
 }
 

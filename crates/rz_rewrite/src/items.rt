@@ -3,27 +3,35 @@
 ghost use Rattle.std.specs.Prelude.{◌≡◌, [], ◌∷◌, ◌++◌, OnOk, OnErr, IfOk};
 
 use rz_flags::Cond;
-use rz_machine::insn::Insn;
+use rz_isa::Insn;
 use rz_num::OutOfMemory;
 use std::alloc::Global;
 use std::marker::Model;
 
-/// What a jump leads to.
-#[derive(Clone, Copy, PartialEq, Eq)]
+/// What an item names by its address.
+#[derive(Clone, Copy)]
 pub enum Label {
     /// The first item of the fragment of an address.
     Place(u64),
     /// The stub of an address.
     Stub(u64),
+    /// The item of this number of the same list, from 0; the number of items names the place after the last one.
+    Item(u32),
+    /// The table of the transfer at an address.
+    Table(u64),
+    /// The shared routine.
+    Routine,
 }
 
 /// One instruction of the new file.
-#[derive(Clone, Copy, PartialEq, Eq)]
+#[derive(Clone, Copy)]
 pub enum Item {
     /// An instruction as it is.
     Whole(Insn),
     /// A jump to a label, under a condition or always.
     Jump { cond: Option<Cond>, to: Label },
+    /// A jump to a label where RCX is 0.
+    Jrcxz { to: Label },
 }
 
 /// Items one after the other.

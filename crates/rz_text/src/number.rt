@@ -4,6 +4,7 @@ ghost use Rattle.std.specs.Prelude.{◌≡◌, ◌<◌, ◌≤◌, ◌^◌, leng
 ghost use Rattle.std.specs.Option.{SomeIff};
 ghost use Rattle.std.specs.Char.{digit_value};
 ghost use Rattle.std.specs.Str.Parse.{digits_value, AllDigits};
+ghost use Rattle.rz_text.specs.Calls.Digits.{HasValue};
 ghost use Rattle.rz_text.specs.Number.{decimal, decimal_has, hexadecimal, hexadecimal_has, wrong_place};
 
 const DECIMAL_DIGITS: usize = 20;
@@ -75,7 +76,7 @@ fn hexadecimal_has(place: usize, byte: u8) -> bool
 fn value(digits: &[u8], radix: u32) -> Option<u64>
     requires digits { AllDigits radix digits.now }
     requires radix { (2 ≤ radix) × (radix ≤ 36) }
-    ensures { SomeIff result ((0 < length digits.now) × (digits_value radix digits.now < 2 ^ 64)) (digits_value radix digits.now) }
+    ensures { SomeIff result (HasValue radix digits.now) (digits_value radix digits.now) }
 {
     let Ok(text) = str::from_utf8(digits) else {
         return None;

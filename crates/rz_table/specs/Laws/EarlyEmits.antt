@@ -5,7 +5,7 @@ use Rattle.rz_isa.specs.declared.rows.Form.TheVariants as forms
 use Rattle.rz_isa.specs.declared.rows.Op.TheVariants as ops
 use Rattle.rz_isa.specs.declared.instruction.Insn.TheVariants as insns
 use Rattle.rz_isa.specs.Emitted.{Emits, EmitsLookup, has_lookup}
-use Rattle.rz_isa.proofs.Served.{emits_load, emits_store, emits_store_imm, emits_load_32, emits_mov, emits_lea, emits_push, emits_push_byte, emits_push_imm, emits_pop, emits_jcc, emits_jcc_short, emits_jrcxz, emits_jmp, emits_jmp_short, emits_bare, lone_row}
+use Rattle.rz_isa.proofs.Served.{emits_load, emits_store, emits_store_imm, emits_load_32, emits_mov, emits_lea, emits_push, emits_push_byte, emits_push_imm, emits_pop, emits_jcc, emits_jcc_short, emits_jrcxz, emits_jmp, emits_jmp_short, emits_bare, emits_bytes, lone_row}
 use Rattle.rz_isa.proofs.Tests.{never}
 use Rattle.rz_table.specs.declared.early_rows.TheConstants.{EARLY}
 
@@ -29,7 +29,7 @@ emits = record {
   jmp = λ t at. emits_jmp EARLY 28 t at refl;
   jmp_short = λ t at. emits_jmp_short EARLY 27 t at refl;
   syscall = λ at. emits_bare EARLY insns.Syscall 29 at 2 (lone_row maps.Two 0x05 sizes.N None forms.Near ops.Syscall) refl refl refl refl refl (λ next. refl);
-  ud2 = λ at. emits_bare EARLY insns.Ud2 30 at 2 (lone_row maps.Two 0x0b sizes.N None forms.Near ops.Ud2) refl refl refl refl refl (λ next. refl);
+  ud2 = λ at. emits_bytes EARLY insns.Ud2 30 at (lone_row maps.Two 0x0b sizes.N None forms.Near ops.Ud2) (0x0f ∷ 0x0b ∷ []) refl refl refl refl (λ next. refl) (λ next. refl);
   hlt = λ at. emits_bare EARLY insns.Hlt 31 at 1 (lone_row maps.One 0xf4 sizes.N None forms.Near ops.Hlt) refl refl refl refl refl (λ next. refl);
   int3 = λ at. emits_bare EARLY insns.Int3 32 at 1 (lone_row maps.One 0xcc sizes.N None forms.Near ops.Int3) refl refl refl refl refl (λ next. refl);
 }

@@ -1,4 +1,4 @@
-use Rattle.std.specs.Prelude.{ℕ, ◌+◌, ◌≡◌, ◌∷◌, [], None, refl, IsTrue}
+use Rattle.std.specs.Prelude.{ℕ, ◌+◌, ◌∷◌, [], None, refl, IsTrue}
 use Rattle.rz_flags.specs.declared.ArithOp.{ArithOp}
 use Rattle.rz_flags.specs.declared.ArithOp.TheVariants as ariths
 use Rattle.rz_flags.specs.declared.ShiftOp.TheVariants as shifts
@@ -11,7 +11,7 @@ use Rattle.rz_isa.specs.declared.instruction.Place.TheVariants as places
 use Rattle.rz_isa.specs.declared.instruction.Operand.TheVariants as operands
 use Rattle.rz_isa.specs.declared.instruction.Count.TheVariants as counts
 use Rattle.rz_isa.specs.Emitted.{Emits, EmitsLookup, has_lookup, register}
-use Rattle.rz_isa.proofs.Served.{emits_load, emits_store, emits_store_imm, emits_load_32, emits_mov, emits_lea, emits_push, emits_push_byte, emits_push_imm, emits_pop, emits_jcc, emits_jcc_short, emits_jrcxz, emits_jmp, emits_jmp_short, emits_bare, lone_row, Serves, ServesBut, each_double, each_arith, arith_row, arith_load_row, arith_byte_row, arith_imm_row, shr_once_row, shr_once_byte_row, shr_row, emits_arith, emits_arith_load, emits_arith_store, emits_arith_byte, emits_arith_imm, emits_shr_once, emits_shr, emits_jmp_ind}
+use Rattle.rz_isa.proofs.Served.{emits_load, emits_store, emits_store_imm, emits_load_32, emits_mov, emits_lea, emits_push, emits_push_byte, emits_push_imm, emits_pop, emits_jcc, emits_jcc_short, emits_jrcxz, emits_jmp, emits_jmp_short, emits_bare, emits_bytes, lone_row, Serves, ServesBut, each_double, each_arith, arith_row, arith_load_row, arith_byte_row, arith_imm_row, shr_once_row, shr_once_byte_row, shr_row, emits_arith, emits_arith_load, emits_arith_store, emits_arith_byte, emits_arith_imm, emits_shr_once, emits_shr, emits_jmp_ind}
 use Rattle.rz_table.specs.declared.profile_rows.TheConstants.{PROFILE}
 
 -- Profile 1 emits what it must, and what the lookup routine is made of.
@@ -34,7 +34,7 @@ emits = record {
   jmp = λ t at. emits_jmp PROFILE 161 t at refl;
   jmp_short = λ t at. emits_jmp_short PROFILE 160 t at refl;
   syscall = λ at. emits_bare PROFILE insns.Syscall 199 at 2 (lone_row maps.Two 0x05 sizes.N None forms.Near ops.Syscall) refl refl refl refl refl (λ next. refl);
-  ud2 = λ at. emits_bare PROFILE insns.Ud2 200 at 2 (lone_row maps.Two 0x0b sizes.N None forms.Near ops.Ud2) refl refl refl refl refl (λ next. refl);
+  ud2 = λ at. emits_bytes PROFILE insns.Ud2 200 at (lone_row maps.Two 0x0b sizes.N None forms.Near ops.Ud2) (0x0f ∷ 0x0b ∷ []) refl refl refl refl (λ next. refl) (λ next. refl);
   hlt = λ at. emits_bare PROFILE insns.Hlt 201 at 1 (lone_row maps.One 0xf4 sizes.N None forms.Near ops.Hlt) refl refl refl refl refl (λ next. refl);
   int3 = λ at. emits_bare PROFILE insns.Int3 202 at 1 (lone_row maps.One 0xcc sizes.N None forms.Near ops.Int3) refl refl refl refl refl (λ next. refl);
 }

@@ -2,7 +2,7 @@ use Rattle.std.proofs.Common.{◌≡◌, ℕ, length, map, Result, Ok, Err, IfOk
 use Rattle.std.proofs.lemmas.List.{length-map}
 use Rattle.rz_elf.specs.Elf.{Image}
 use Rattle.rz_elf.specs.Loaded.{ElfFile, loaded_region}
-use Rattle.rz_elf.proofs.Loads.{loaded_image}
+use Rattle.rz_elf.specs.Laws.Loads.{loaded_image}
 use Rattle.rz_core.specs.Texts.{check_text}
 use Rattle.rz_core.specs.Causes.{checked_text}
 use Rattle.rz_core.proofs.check.text_of.Goals as goal

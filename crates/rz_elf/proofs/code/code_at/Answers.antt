@@ -4,7 +4,7 @@ use Rattle.rz_image.specs.Memory.{fetch}
 use Rattle.rz_elf.specs.declared.elf.Load.{Load}
 use Rattle.rz_elf.specs.Elf.{Image, image_of}
 use Rattle.rz_elf.specs.Loaded.{ElfFile, IsLoad, loaded_region}
-use Rattle.rz_elf.proofs.Loads.{loadable, loaded_image}
+use Rattle.rz_elf.specs.Laws.Loads.{loadable, loaded_image}
 use Rattle.rz_elf.proofs.code.code_at.Goals as goal
 
 pub fetch-requires : goal.fetch-requires

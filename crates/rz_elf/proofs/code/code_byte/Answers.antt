@@ -1,5 +1,5 @@
 use Rattle.std.proofs.Common.{length, sym, ◌∙◌}
-use Rattle.rz_elf.proofs.Loads.{load_at, place_in}
+use Rattle.rz_elf.specs.Laws.Loads.{load_at, place_in}
 use Rattle.rz_elf.specs.Loaded.{IsLoad}
 use Rattle.rz_elf.proofs.code.code_byte.Goals as goal
 

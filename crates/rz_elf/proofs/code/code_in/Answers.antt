@@ -1,5 +1,5 @@
 use Rattle.std.proofs.Common.{◌≡◌, true, sym, ◌∙◌, arith}
-use Rattle.rz_elf.proofs.Loads.{zero_code}
+use Rattle.rz_elf.specs.Laws.Loads.{zero_code}
 use Rattle.rz_elf.proofs.code.code_in.Goals as goal
 
 pub returns-then-load-place : goal.returns-then-load-place

@@ -1,9 +1,9 @@
 use Rattle.std.proofs.Common.{◌≡◌, ◌+◌, ◌-◌, ◌++◌, [], take, map, Some, None, ap, sym, ◌∙◌, subst, arith, append-nil}
 use Rattle.rz_image.specs.Memory.{Regions, RegionsFit, code_of, cell_at, fetch}
-use Rattle.rz_image.proofs.MemoryTurns.{fetch_stops, fetch_turn, fetch_ends}
-use Rattle.rz_image.proofs.RunLaws.{fetch_none}
+use Rattle.rz_image.specs.Laws.Turns.{fetch_stops, fetch_turn, fetch_ends}
+use Rattle.rz_image.specs.Laws.Run.{fetch_none}
 use Rattle.rz_elf.specs.Loaded.{loaded_region}
-use Rattle.rz_elf.proofs.Loads.{loads_fit}
+use Rattle.rz_elf.specs.Laws.Loads.{loads_fit}
 use Rattle.rz_elf.proofs.code.fetch.Goals as goal
 
 pub returns-in_default-clause-bytes : goal.returns-in_default-clause-bytes

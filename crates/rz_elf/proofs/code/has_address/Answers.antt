@@ -1,4 +1,4 @@
-use Rattle.rz_elf.proofs.Loads.{has_place}
+use Rattle.rz_elf.specs.Laws.Loads.{has_place}
 use Rattle.rz_elf.proofs.code.has_address.Goals as goal
 
 pub returns-then-load-at : goal.returns-then-load-at

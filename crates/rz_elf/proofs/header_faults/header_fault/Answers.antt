@@ -1,6 +1,6 @@
 use Rattle.std.proofs.Common.{◌∙◌}
 use Rattle.rz_elf.specs.declared.header_faults.HeaderFault.TheVariants as kind
-use Rattle.rz_elf.proofs.Conditions.{all_kinds, kind_found, kind_passed}
+use Rattle.rz_elf.specs.Laws.Conditions.{all_kinds, kind_found, kind_passed}
 use Rattle.rz_elf.proofs.header_faults.header_fault.Goals as goal
 
 pub returns-in-Some : goal.returns-in-Some

@@ -1,7 +1,7 @@
 use Rattle.std.proofs.Common.{◌≡◌, drop}
 use Rattle.rz_elf.specs.Elf.{first_of, header_conditions}
 use Rattle.rz_elf.specs.HeaderFaults.{of_kinds}
-use Rattle.rz_elf.proofs.Conditions.{all_kinds}
+use Rattle.rz_elf.specs.Laws.Conditions.{all_kinds}
 use Rattle.rz_elf.proofs.header_faults.header_fault.Given as goal
 
 abbrev pub invariant-loop-kind : goal.invariant-loop-kind

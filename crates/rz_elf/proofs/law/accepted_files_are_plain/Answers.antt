@@ -1,4 +1,4 @@
-use Rattle.rz_elf.proofs.PlainAccepted.{accepted_plain}
+use Rattle.rz_elf.specs.Laws.PlainAccepted.{accepted_plain}
 use Rattle.rz_elf.proofs.law.accepted_files_are_plain.Goals as goal
 
 pub returns : goal.returns

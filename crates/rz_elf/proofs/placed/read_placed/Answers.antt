@@ -1,7 +1,7 @@
 use Rattle.std.proofs.Common.{◌+◌, ◌-◌, ◌*◌, ◌++◌, ◌∷◌, [], ℕ, List, drop, Option, sym, ap, ap₂, ◌∙◌, arith}
 use Rattle.std.proofs.lemmas.List.{take_rest}
 use Rattle.rz_elf.specs.Elf.{Segment, Placed, segments_of, segment_of, placed_from}
-use Rattle.rz_elf.proofs.HeaderList.{placed_turn, placed_end, later}
+use Rattle.rz_elf.specs.Laws.HeaderList.{placed_turn, placed_end, later}
 use Rattle.rz_elf.proofs.placed.read_placed.Goals as goal
 
 pub loop-index-preserved : goal.loop-index-preserved

@@ -3,7 +3,7 @@ use Rattle.std.specs.List.{AllByRecursion}
 use Rattle.rz_num.specs.Page.{page_up}
 use Rattle.rz_elf.specs.Elf.{Placed, highest_end}
 use Rattle.rz_elf.specs.Loaded.{IsLow, load_of, elf_of, loaded}
-use Rattle.rz_elf.proofs.Reading.{low_load_headers, first_break_of, loaded-elf_of}
+use Rattle.rz_elf.specs.Laws.Reading.{low_load_headers, first_break_of, loaded-elf_of}
 use Rattle.rz_elf.proofs.read.keep.Goals as goal
 
 pub highest_end-requires : goal.highest_end-requires

@@ -1,7 +1,7 @@
 use Rattle.std.proofs.Common.{◌≡◌, ◌+◌, ◌*◌, ◌≤◌, ℕ, List, length, map, filter, Some, None, ap, ap₂, sym, subst, ◌∙◌}
 use Rattle.rz_elf.specs.Elf.{FileHeader, Placed, first_of, fault_of, file_header, file_conditions, header_conditions, load_conditions, placed}
 use Rattle.rz_elf.specs.Loaded.{is_load_header}
-use Rattle.rz_elf.proofs.Reading.{file_faulty, header_faulty, load_faulty, faultless, table_fits, few_load_headers, load_headers}
+use Rattle.rz_elf.specs.Laws.Reading.{file_faulty, header_faulty, load_faulty, faultless, table_fits, few_load_headers, load_headers}
 use Rattle.rz_elf.proofs.read.read_elf.Goals as goal
 
 pub returns-in-Some-clause-fault : goal.returns-in-Some-clause-fault

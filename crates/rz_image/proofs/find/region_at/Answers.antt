@@ -2,7 +2,7 @@ use Rattle.std.proofs.Common.{◌-◌, leb, ap, sym, ◌∙◌, arith, rules}
 use Rattle.std.proofs.lemmas.List.{get_or_default}
 use Rattle.rz_image.specs.Memory.{contains}
 use Rattle.std.proofs.lemmas.List.Sorted.{IsPartitionPoint-from_clause, IsPartitionedBy-leb}
-use Rattle.rz_image.proofs.FindLaws.{rising, none_begins, none_has}
+use Rattle.rz_image.specs.Laws.Find.{rising, none_begins, none_has}
 use Rattle.rz_image.proofs.find.region_at.Goals as goal
 
 pub returns-then-after-eq0-clause-none : goal.returns-then-after-eq0-clause-none

@@ -1,7 +1,7 @@
 use Rattle.std.proofs.Common.{◌≡◌, ◌+◌, ◌-◌, ◌≤◌, is_none, sym, ap, ◌∙◌, arith, mod-eq_of_lt}
 use Rattle.rz_image.specs.Memory.{refused, wrap, cell_at}
 use Rattle.rz_image.specs.Run.{allows}
-use Rattle.rz_image.proofs.RunLaws.{refused_here, refused_all, refused_run}
+use Rattle.rz_image.specs.Laws.Run.{refused_here, refused_all, refused_run}
 use Rattle.rz_image.proofs.runs.all_allow.Goals as goal
 
 pub returns-then-run-eq0 : goal.returns-then-run-eq0

@@ -1,6 +1,6 @@
 use Rattle.std.proofs.Common.{◌-◌, get_or, ap, sym, ◌∙◌}
 use Rattle.rz_image.specs.Memory.{Cell}
-use Rattle.rz_image.proofs.FindLaws.{cell_found}
+use Rattle.rz_image.specs.Laws.Find.{cell_found}
 use Rattle.rz_image.proofs.runs.byte_at.Goals as goal
 
 pub returns : goal.returns

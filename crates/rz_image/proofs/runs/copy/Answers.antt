@@ -1,8 +1,8 @@
 use Rattle.std.proofs.Common.{◌≡◌, ◌+◌, ◌-◌, ◌≤◌, ◌++◌, ℕ, List, length, take, ap, ap₂, sym, ◌∙◌, arith, append_assoc, append-nil}
 use Rattle.rz_image.specs.declared.access.Access.TheVariants.{Read}
 use Rattle.rz_image.specs.Memory.{bytes_at}
-use Rattle.rz_image.proofs.MemoryTurns.{bytes_turn}
-use Rattle.rz_image.proofs.RunLaws.{bytes_split, bytes_run, bytes_all}
+use Rattle.rz_image.specs.Laws.Turns.{bytes_turn}
+use Rattle.rz_image.specs.Laws.Run.{bytes_split, bytes_run, bytes_all}
 use Rattle.rz_image.proofs.runs.copy.Goals as goal
 
 pub loop-done-preserved-then-is_empty : goal.loop-done-preserved-then-is_empty

@@ -1,9 +1,9 @@
 use Rattle.std.proofs.Common.{◌≡◌, ◌+◌, ◌-◌, ◌≤◌, ◌++◌, List, ℕ, length, take, None, ap, ap₂, sym, ◌∙◌, arith, append-nil, append_assoc}
 use Rattle.std.proofs.lemmas.List.{length-take-le}
 use Rattle.rz_image.specs.Memory.{fetch, code_of, cell_at}
-use Rattle.rz_image.proofs.FindLaws.{regions_fit}
-use Rattle.rz_image.proofs.MemoryTurns.{fetch_stops, fetch_ends, code_of_none}
-use Rattle.rz_image.proofs.RunLaws.{fetch_run, fetch_none, put_front}
+use Rattle.rz_image.specs.Laws.Find.{regions_fit}
+use Rattle.rz_image.specs.Laws.Turns.{fetch_stops, fetch_ends, code_of_none}
+use Rattle.rz_image.specs.Laws.Run.{fetch_run, fetch_none, put_front}
 use Rattle.rz_image.proofs.runs.fetch.Goals as goal
 
 pub returns-in_default-clause-bytes : goal.returns-in_default-clause-bytes

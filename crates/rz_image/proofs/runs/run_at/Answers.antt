@@ -1,8 +1,8 @@
 use Rattle.std.proofs.Common.{◌-◌, ◌≤◌, length, ap, sym, ◌∙◌, subst}
 use Rattle.rz_image.specs.declared.region.Region.{Region}
 use Rattle.rz_image.specs.Run.{run_in, IsRun}
-use Rattle.rz_image.proofs.FindLaws.{fits_at}
-use Rattle.rz_image.proofs.RunLaws.{region_run}
+use Rattle.rz_image.specs.Laws.Find.{fits_at}
+use Rattle.rz_image.specs.Laws.Run.{region_run}
 use Rattle.rz_image.proofs.runs.run_at.Goals as goal
 
 pub run_in-requires-clause-opened : goal.run_in-requires-clause-opened

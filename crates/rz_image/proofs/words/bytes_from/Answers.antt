@@ -1,5 +1,5 @@
 use Rattle.std.proofs.Common.{sym, arith, length-set}
-use Rattle.rz_image.proofs.RunLaws.{bytes_all, bytes_more}
+use Rattle.rz_image.specs.Laws.Run.{bytes_all, bytes_more}
 use Rattle.rz_image.proofs.words.bytes_from.Goals as goal
 
 pub loop-k-init : goal.loop-k-init

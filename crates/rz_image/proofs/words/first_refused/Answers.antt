@@ -1,7 +1,7 @@
 use Rattle.std.proofs.Common.{◌≡◌, ◌+◌, ◌-◌, ◌<◌, length, sym, ap, ◌∙◌, arith}
 use Rattle.rz_image.specs.Memory.{refused, wrap, cell_at}
 use Rattle.rz_image.specs.Run.{allows}
-use Rattle.rz_image.proofs.RunLaws.{refused_here, refused_all, refused_next}
+use Rattle.rz_image.specs.Laws.Run.{refused_here, refused_all, refused_next}
 use Rattle.rz_image.proofs.words.first_refused.Goals as goal
 
 pub returns-then-is_empty : goal.returns-then-is_empty

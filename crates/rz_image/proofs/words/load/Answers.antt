@@ -3,7 +3,7 @@ use Rattle.byteorder.specs.Endian.{little_number}
 use Rattle.rz_image.specs.declared.access.Access.TheVariants.{Read}
 use Rattle.rz_image.specs.Memory.{refused, is_readable, bytes_at}
 use Rattle.rz_image.specs.Word.{byte_count}
-use Rattle.rz_image.proofs.RunLaws.{refused_run, refused_all, bytes_run}
+use Rattle.rz_image.specs.Laws.Run.{refused_run, refused_all, bytes_run}
 use Rattle.rz_image.proofs.WordLaws.{number_of_front, few_bytes, front_bytes}
 use Rattle.rz_image.proofs.words.load.Goals as goal
 

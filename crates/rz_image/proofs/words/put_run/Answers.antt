@@ -2,9 +2,9 @@ use Rattle.std.proofs.Common.{◌≡◌, ◌+◌, ◌-◌, ℕ, List, get_or, se
 use Rattle.rz_image.specs.declared.access.Access.TheVariants.{Write}
 use Rattle.rz_image.specs.declared.region.Region.{Region}
 use Rattle.rz_image.specs.Memory.{Ascend, refused, is_writable}
-use Rattle.rz_image.proofs.FindLaws.{fits_at}
+use Rattle.rz_image.specs.Laws.Find.{fits_at}
 use Rattle.rz_image.specs.Laws.Puts.{within}
-use Rattle.rz_image.proofs.RunLaws.{region_run, room, refused_run, refused_all}
+use Rattle.rz_image.specs.Laws.Run.{region_run, room, refused_run, refused_all}
 use Rattle.rz_image.proofs.PutLaws.{put_all, ascend_put_bytes}
 use Rattle.rz_image.proofs.words.put_run.Goals as goal
 

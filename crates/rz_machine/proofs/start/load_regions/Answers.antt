@@ -3,7 +3,7 @@ use Rattle.std.specs.List.{AllByRecursion}
 use Rattle.rz_image.specs.Memory.{Ascend}
 use Rattle.rz_elf.specs.declared.elf.Load.{Load}
 use Rattle.rz_elf.specs.Loaded.{ElfFile, IsLoad, loaded, loaded_region}
-use Rattle.rz_elf.proofs.Loads.{loadable, ascend_loads}
+use Rattle.rz_elf.specs.Laws.Loads.{loadable, ascend_loads}
 use Rattle.rz_machine.proofs.start.load_regions.Goals as goal
 
 pub regions_of-requires : goal.regions_of-requires

@@ -1,7 +1,7 @@
 use Rattle.std.proofs.Common.{◌≤◌, ◌<◌, set, length, ap, sym, ◌∙◌, subst}
 use Rattle.rz_image.specs.declared.region.Region.{Region}
 use Rattle.rz_image.specs.Memory.{Regions, Ascend, bytes_in, reopened, set_open}
-use Rattle.rz_image.proofs.FindLaws.{fits_at}
+use Rattle.rz_image.specs.Laws.Find.{fits_at}
 use Rattle.rz_image.proofs.OpenLaws.{bytes_in_at, set_open_at, ascend_set_open}
 use Rattle.rz_image.proofs.memory.Memory.set_open.Goals as goal
 

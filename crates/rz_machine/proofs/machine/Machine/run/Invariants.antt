@@ -1,6 +1,7 @@
 use Rattle.std.proofs.Common.{◌≡◌}
+use Rattle.rz_isa.specs.Decoded.{decoded}
 use Rattle.rz_machine.specs.State.{after}
 use Rattle.rz_machine.proofs.machine.Machine.run.Given as goal
 
 abbrev pub invariant-loop : goal.invariant-loop
-invariant-loop g l = l.self ≡ after g.T.InsnTable.decoder l.counter l.initial.self
+invariant-loop g l = l.self ≡ after (decoded g.T.InsnTable.rows) l.counter l.initial.self

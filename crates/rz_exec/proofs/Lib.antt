@@ -1,0 +1,4 @@
+pub mod EffectRows
+pub mod Iterations
+pub mod Copies
+pub mod Stores

@@ -1,0 +1,4 @@
+pub mod OneForm
+pub mod FormStands
+pub mod Registers
+pub mod Named
