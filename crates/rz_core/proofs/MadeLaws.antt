@@ -24,7 +24,7 @@ use Rattle.rz_elf.specs.PlainImage.{IsPlainRegion, IsPlainImage}
 use Rattle.rz_rewrite.specs.Laws.Sites.{keeps_no_transfers, no_sites, no_site_edges}
 use Rattle.rz_rewrite.specs.Refusals.{rip_reach_of as first_out_of_reach, no_room_for}
 use Rattle.rz_rewrite.specs.Rewritten.{CanRewrite, HasNoTransfers}
-use Rattle.rz_table.specs.declared.early_rows.TheConstants.{EARLY}
+use Rattle.rz_table.specs.EarlyRows.{early}
 use Rattle.rz_elf.specs.Laws.Loads.{loaded_image}
 use Rattle.rz_image.specs.Laws.Cells.{IsFixed, all_map, none_self_written}
 use Rattle.rz_elf.specs.Laws.PlainAccepted.{accepted_plain}
@@ -64,7 +64,7 @@ module _ (elf : ElfFile) (is : IsRead elf) where
 
 -- the table has no calls, no returns and no jumps by an operand
 pub no_transfers : (x : Image) (kept : Kept) → HasNoTransfers decode_early x kept
-no_transfers = keeps_no_transfers EARLY refl
+no_transfers = keeps_no_transfers early refl
 
 -- the report names no sites
 pub report_is : (x : List ℕ) (limit : ℕ) (input : Input) (kept : Kept) (report : List ℕ) → CanRewrite decode_early (image_of x) kept → kept ≡ kept_of limit x (input ∷ [])

@@ -22,7 +22,7 @@ fn spell_anew<T: InsnTable>(bytes: &[u8], out: &mut [u8; 15]) -> u8
     }
 }
 
-// Bytes, and how many bytes the canonical spelling by profile 1 and by its first part has: lea
+// Bytes, and how many bytes the canonical spelling by profile 1 and by it without transfers has: lea
 // with a needless displacement, a move of 1 to a 64-bit register, PAUSE, add of memory, ret,
 // a lone prefix.
 #[test]
@@ -30,8 +30,8 @@ fn both_tables_spell_anew(rt: HostRuntime) {
     let cases: [(&[u8], u8, u8); 6] = [
         (&[0x48, 0x8d, 0xa4, 0x24, 0x10, 0, 0, 0], 5, 5),
         (&[0x48, 0xb8, 1, 0, 0, 0, 0, 0, 0, 0], 7, 7),
-        (&[0xf3, 0x90], 1, 0),
-        (&[0x3e, 0x03, 0x44, 0x24, 0x10], 4, 0),
+        (&[0xf3, 0x90], 1, 1),
+        (&[0x3e, 0x03, 0x44, 0x24, 0x10], 4, 4),
         (&[0xc3], 1, 0),
         (&[0x66], 0, 0),
     ];

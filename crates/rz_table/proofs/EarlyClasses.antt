@@ -5,10 +5,10 @@ use Rattle.rz_isa.specs.Class.{class_place}
 use Rattle.rz_isa.specs.Index.{numbers_of}
 use Rattle.rz_table.specs.Index.{cell}
 use Rattle.rz_table.specs.declared.early_index.TheConstants.{EARLY_CLASS_STARTS, EARLY_CLASS_ROWS}
-use Rattle.rz_table.specs.declared.early_rows.TheConstants.{EARLY}
+use Rattle.rz_table.specs.EarlyRows.{early}
 
 -- the rows of each class, computed
-pub class_listed : (class : Class) → cell EARLY_CLASS_STARTS EARLY_CLASS_ROWS (class_place class) ≡ numbers_of class 0 EARLY
+pub class_listed : (class : Class) → cell EARLY_CLASS_STARTS EARLY_CLASS_ROWS (class_place class) ≡ numbers_of class 0 early
 class_listed classes.Add = refl
 class_listed classes.Or = refl
 class_listed classes.Adc = refl

@@ -1,3 +1,4 @@
 pub mod Covered
 pub mod ProfileClasses
 pub mod EarlyClasses
+mod Gap

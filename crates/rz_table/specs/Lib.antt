@@ -1,4 +1,5 @@
 pub mod Index
+pub mod EarlyRows
 pub mod Listing
 pub mod Worked
 pub mod Decoded

@@ -1,4 +1,4 @@
-use Rattle.std.specs.Prelude.{ℕ, ◌+◌, ◌-◌, ◌*◌, List, [], ◌∷◌, ◌++◌, map, take, drop, Option, Some, None, Bool, true, false}
+use Rattle.std.specs.Prelude.{ℕ, ◌+◌, ◌-◌, ◌*◌, List, [], ◌∷◌, ◌++◌, map, drop, Option, Some, None, Bool, true, false}
 use Rattle.rz_flags.specs.declared.ArithOp.{ArithOp}
 use Rattle.rz_flags.specs.declared.ArithOp.TheVariants as ariths
 use Rattle.rz_flags.specs.declared.UnaryOp.TheVariants as unaries
@@ -236,6 +236,6 @@ ends = opcodes Two No N None ((0x05, ops.Syscall) ∷ []) ∷ opcodes Two No N N
 abbrev pub profile_rows : List Row
 profile_rows = joined ariths_rows ++ joined moves ++ joined operations ++ joined jumps ++ joined calls ++ joined ends
 
--- the sum and the comparison with a sign-extended byte, moves from MOV to LEAVE, jumps, ends
+-- profile 1 without calls, jumps through operands and returns
 abbrev pub early_rows : List Row
-early_rows = arith_byte 0 ariths.Add ∷ (arith_byte 7 ariths.Cmp ∷ (joined (take 17 (drop 3 moves)) ++ joined jumps ++ joined ends))
+early_rows = joined ariths_rows ++ joined moves ++ joined operations ++ joined jumps ++ joined (drop 5 calls) ++ joined ends

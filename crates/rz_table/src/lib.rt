@@ -52,7 +52,6 @@ macro_rules! row {
 
 mod early;
 mod early_index;
-mod early_rows;
 mod index;
 mod profile;
 mod profile_index;

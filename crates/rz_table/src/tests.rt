@@ -23,6 +23,6 @@ fn last_row_is_found_again(rt: HostRuntime) {
 #[test]
 fn tables_have_their_rows(rt: HostRuntime) {
     assert_eq!(rt; Profile1::count(), 203);
-    assert_eq!(rt; Early::count(), 33);
+    assert_eq!(rt; Early::count(), 198);
     assert_eq!(rt; Cond::from_number(4).number(), 4);
 }
