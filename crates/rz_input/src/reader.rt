@@ -7,7 +7,7 @@ ghost use Rattle.rz_input.specs.declared.error.InputError.TheVariants as error;
 ghost use Rattle.rz_input.specs.Grammar.{entry_of as entry_said};
 ghost use Rattle.rz_input.specs.Fault.{fault_of, line_fault};
 ghost use Rattle.rz_input.specs.Value.{input_of};
-ghost use Rattle.rz_input.specs.Calls.Draft.{with_entry, with_some};
+ghost use Rattle.rz_input.specs.Calls.Draft.{with_entry, with_some, LineRefusal};
 
 use crate::entry::Entry;
 use crate::error::InputError;
@@ -61,7 +61,7 @@ fn read_line(alloc: Global, draft: &mut Draft, n: u64, line: &[u8]) -> Result<()
     ensures added { OnOk result (draft.new.input ≡ with_some draft.old.input (entry_said (words line.now))) }
     ensures counted { OnOk result (draft.new.strings ≡ length (strings draft.new.input.args)) }
     ensures few { OnOk result (draft.new.strings ≤ 65536) }
-    ensures fault { IfErr result (λ e. e ≢ error.OutOfMemory → line_fault draft.old.input.args n line.now ≡ Some e) }
+    ensures fault { IfErr result (LineRefusal draft.old.input.args n line.now) }
 {
     let Some(entry) = entry_of(alloc, line)? else {
         return Err(InputError::BadLine(n));

@@ -134,7 +134,7 @@ pub fn fragment(
     following: Option<u64>,
 ) -> Result<Fragment, OutOfMemory>
     ensures at { IfOk result (λ fragment. fragment.at ≡ at) }
-    ensures items { IfOk result (λ fragment. fragment.items ≡ trimmed following (items_for edges.now at decoded.now)) }
+    ensures items { IfOk result (λ f. f.items ≡ trimmed following (items_for edges.now at decoded.now)) }
 {
     let items = match *decoded {
         Decoded::Insn { insn, len } => {
