@@ -1,6 +1,7 @@
 ghost use Rattle.std.specs.Prelude.{◌≡◌, IsTrue, IfSome, IfNone};
 ghost use Rattle.rz_isa.specs.Regular.{is_regular};
 ghost use Rattle.rz_isa.specs.Spells.{Builds, NoneBuilds};
+ghost use Rattle.rz_isa.specs.declared.rows.Op.TheVariants as ops;
 ghost use Rattle.std.specs.Option.{option_and_then};
 ghost use Rattle.rz_isa.specs.Finding.{with_place as with_place_at, with_operand as with_operand_at, with_reg as with_reg_at, with_number as with_number_at, with_count as with_count_at, with_index as with_index_at, found_in as found_from, rep_byte as rep_byte_of, least_width as least_width_of, least_place as least_place_of, least as least_of, found};
 
@@ -8,6 +9,7 @@ use crate::having::{can_have, is_first};
 use crate::instruction::{BitIndex, Count, Insn, Mem, Operand, Place, Reg};
 use crate::rows::{Letter, Op, RmRule, Row, Size};
 use crate::spelled::{Fields, letter_width};
+use rz_flags::{ArithOp, BitOp, ScanOp, ShiftOp, UnaryOp, WideOp};
 use rz_num::Width;
 
 fn with_place(letter: Letter, place: Place, f: Fields) -> Option<Fields>
@@ -133,50 +135,315 @@ fn indexed(i: Letter, index: BitIndex, f: Option<Fields>) -> Option<Fields>
     with_index(i, index, f?)
 }
 
+// ---- the fields `f` with what an instruction of one operation names; `None` for other instructions
+
+fn arith_fields(op: ArithOp, d: Letter, s: Letter, insn: &Insn, f: Fields) -> Option<Fields>
+    ensures { result ≡ found_from (ops.Arith op d s) insn.now f }
+{
+    match *insn {
+        Insn::Arith { op: o, w, dst, src } if op == o => {
+            with_operands(d, dst, s, src, Fields { w, ..f })
+        }
+        _ => None,
+    }
+}
+
+fn test_fields(d: Letter, s: Letter, insn: &Insn, f: Fields) -> Option<Fields>
+    ensures { result ≡ found_from (ops.Test d s) insn.now f }
+{
+    match *insn {
+        Insn::Test { w, dst, src } => with_operands(d, dst, s, src, Fields { w, ..f }),
+        _ => None,
+    }
+}
+
+fn mov_fields(d: Letter, s: Letter, insn: &Insn, f: Fields) -> Option<Fields>
+    ensures { result ≡ found_from (ops.Mov d s) insn.now f }
+{
+    match *insn {
+        Insn::Mov { w, dst, src } => with_operands(d, dst, s, src, Fields { w, ..f }),
+        _ => None,
+    }
+}
+
+fn lea_fields(d: Letter, s: Letter, insn: &Insn, f: Fields) -> Option<Fields>
+    ensures { result ≡ found_from (ops.Lea d s) insn.now f }
+{
+    match *insn {
+        Insn::Lea { w, dst, src } => with_number_and_place(d, dst, s, src, Fields { w, ..f }),
+        _ => None,
+    }
+}
+
+fn extend_fields(signed: bool, d: Letter, s: Letter, insn: &Insn, f: Fields) -> Option<Fields>
+    ensures { result ≡ found_from (ops.Extend signed d s) insn.now f }
+{
+    match *insn {
+        Insn::Extend {
+            signed: o,
+            to,
+            from,
+            dst,
+            src,
+        } if signed == o && from == letter_width(s, to) => {
+            with_number_and_place(d, dst, s, src, Fields { w: to, ..f })
+        }
+        _ => None,
+    }
+}
+
+fn push_fields(s: Letter, insn: &Insn, f: Fields) -> Option<Fields>
+    ensures { result ≡ found_from (ops.Push s) insn.now f }
+{
+    match *insn {
+        Insn::Push { src } => with_operand(s, src, f),
+        _ => None,
+    }
+}
+
+fn pop_fields(d: Letter, insn: &Insn, f: Fields) -> Option<Fields>
+    ensures { result ≡ found_from (ops.Pop d) insn.now f }
+{
+    match *insn {
+        Insn::Pop { dst } => with_place(d, dst, f),
+        _ => None,
+    }
+}
+
+fn unary_fields(op: UnaryOp, d: Letter, insn: &Insn, f: Fields) -> Option<Fields>
+    ensures { result ≡ found_from (ops.Unary op d) insn.now f }
+{
+    match *insn {
+        Insn::Unary { op: o, w, dst } if op == o => with_place(d, dst, Fields { w, ..f }),
+        _ => None,
+    }
+}
+
+fn wide_fields(op: WideOp, s: Letter, insn: &Insn, f: Fields) -> Option<Fields>
+    ensures { result ≡ found_from (ops.Wide op s) insn.now f }
+{
+    match *insn {
+        Insn::Wide { op: o, w, src } if op == o => with_place(s, src, Fields { w, ..f }),
+        _ => None,
+    }
+}
+
+fn imul2_fields(d: Letter, s: Letter, insn: &Insn, f: Fields) -> Option<Fields>
+    ensures { result ≡ found_from (ops.Imul2 d s) insn.now f }
+{
+    match *insn {
+        Insn::Imul2 { w, dst, src } => with_number_and_place(d, dst, s, src, Fields { w, ..f }),
+        _ => None,
+    }
+}
+
+fn imul3_fields(d: Letter, s: Letter, _third: Letter, insn: &Insn, f: Fields) -> Option<Fields>
+    ensures { result ≡ found_from (ops.Imul3 d s _third) insn.now f }
+{
+    match *insn {
+        Insn::Imul3 { w, dst, src, imm } => with_number_and_place(
+            d,
+            dst,
+            s,
+            src,
+            Fields { w, imm, ..f },
+        ),
+        _ => None,
+    }
+}
+
+fn shift_fields(op: ShiftOp, d: Letter, c: Letter, insn: &Insn, f: Fields) -> Option<Fields>
+    ensures { result ≡ found_from (ops.Shift op d c) insn.now f }
+{
+    match *insn {
+        Insn::Shift {
+            op: o,
+            w,
+            dst,
+            count,
+        } if op == o => { counted(c, count, with_place(d, dst, Fields { w, ..f })) }
+        _ => None,
+    }
+}
+
+fn double_shift_fields(
+    left: bool,
+    d: Letter,
+    s: Letter,
+    c: Letter,
+    insn: &Insn,
+    f: Fields,
+) -> Option<Fields>
+    ensures { result ≡ found_from (ops.DoubleShift left d s c) insn.now f }
+{
+    match *insn {
+        Insn::DoubleShift {
+            left: o,
+            w,
+            dst,
+            src,
+            count,
+        } if left == o => {
+            counted(
+                c,
+                count,
+                with_place_and_number(d, dst, s, src, Fields { w, ..f }),
+            )
+        }
+        _ => None,
+    }
+}
+
+fn cmov_fields(d: Letter, s: Letter, insn: &Insn, f: Fields) -> Option<Fields>
+    ensures { result ≡ found_from (ops.Cmov d s) insn.now f }
+{
+    match *insn {
+        Insn::Cmov { cond, w, dst, src } => {
+            with_number_and_place(
+                d,
+                dst,
+                s,
+                src,
+                Fields {
+                    w,
+                    cond: cond.number(),
+                    ..f
+                },
+            )
+        }
+        _ => None,
+    }
+}
+
+fn set_fields(d: Letter, insn: &Insn, f: Fields) -> Option<Fields>
+    ensures { result ≡ found_from (ops.Set d) insn.now f }
+{
+    match *insn {
+        Insn::Set { cond, dst } => with_place(
+            d,
+            dst,
+            Fields {
+                cond: cond.number(),
+                ..f
+            },
+        ),
+        _ => None,
+    }
+}
+
+fn jcc_fields(insn: &Insn, f: Fields) -> Option<Fields>
+    ensures { result ≡ found_from ops.Jcc insn.now f }
+{
+    match *insn {
+        Insn::Jcc { cond, target } => Some(Fields {
+            cond: cond.number(),
+            imm: target,
+            ..f
+        }),
+        _ => None,
+    }
+}
+
+fn call_ind_fields(s: Letter, insn: &Insn, f: Fields) -> Option<Fields>
+    ensures { result ≡ found_from (ops.CallInd s) insn.now f }
+{
+    match *insn {
+        Insn::CallInd { src } => with_place(s, src, f),
+        _ => None,
+    }
+}
+
+fn jmp_ind_fields(s: Letter, insn: &Insn, f: Fields) -> Option<Fields>
+    ensures { result ≡ found_from (ops.JmpInd s) insn.now f }
+{
+    match *insn {
+        Insn::JmpInd { src } => with_place(s, src, f),
+        _ => None,
+    }
+}
+
+fn xchg_fields(d: Letter, s: Letter, insn: &Insn, f: Fields) -> Option<Fields>
+    ensures { result ≡ found_from (ops.Xchg d s) insn.now f }
+{
+    match *insn {
+        Insn::Xchg { w, dst, src } => with_place_and_reg(d, dst, s, src, Fields { w, ..f }),
+        _ => None,
+    }
+}
+
+fn bswap_fields(d: Letter, insn: &Insn, f: Fields) -> Option<Fields>
+    ensures { result ≡ found_from (ops.Bswap d) insn.now f }
+{
+    match *insn {
+        Insn::Bswap { w, reg } => with_number(d, reg, Fields { w, ..f }),
+        _ => None,
+    }
+}
+
+fn bit_test_fields(op: BitOp, d: Letter, i: Letter, insn: &Insn, f: Fields) -> Option<Fields>
+    ensures { result ≡ found_from (ops.BitTest op d i) insn.now f }
+{
+    match *insn {
+        Insn::BitTest {
+            op: o,
+            w,
+            dst,
+            index,
+        } if op == o => { indexed(i, index, with_place(d, dst, Fields { w, ..f })) }
+        _ => None,
+    }
+}
+
+fn scan_fields(op: ScanOp, d: Letter, s: Letter, insn: &Insn, f: Fields) -> Option<Fields>
+    ensures { result ≡ found_from (ops.Scan op d s) insn.now f }
+{
+    match *insn {
+        Insn::Scan { op: o, w, dst, src } if op == o => {
+            with_number_and_place(d, dst, s, src, Fields { w, ..f })
+        }
+        _ => None,
+    }
+}
+
+fn movs_fields(insn: &Insn, f: Fields) -> Option<Fields>
+    ensures { result ≡ found_from ops.Movs insn.now f }
+{
+    match *insn {
+        Insn::Movs { w, rep } => Some(Fields {
+            w,
+            rep: rep_byte(rep),
+            ..f
+        }),
+        _ => None,
+    }
+}
+
+fn stos_fields(insn: &Insn, f: Fields) -> Option<Fields>
+    ensures { result ≡ found_from ops.Stos insn.now f }
+{
+    match *insn {
+        Insn::Stos { w, rep } => Some(Fields {
+            w,
+            rep: rep_byte(rep),
+            ..f
+        }),
+        _ => None,
+    }
+}
+
 // The fields `f` with what the operation names in the instruction; `None` where it can't be
 // the operation's.
 fn found_in(operation: Op, insn: &Insn, f: Fields) -> Option<Fields>
     ensures { result ≡ found_from operation insn.now f }
 {
     match operation {
-        Op::Arith(op, d, s) => match *insn {
-            Insn::Arith { op: o, w, dst, src } if op == o => {
-                with_operands(d, dst, s, src, Fields { w, ..f })
-            }
-            _ => None,
-        },
-        Op::Test(d, s) => match *insn {
-            Insn::Test { w, dst, src } => with_operands(d, dst, s, src, Fields { w, ..f }),
-            _ => None,
-        },
-        Op::Mov(d, s) => match *insn {
-            Insn::Mov { w, dst, src } => with_operands(d, dst, s, src, Fields { w, ..f }),
-            _ => None,
-        },
-        Op::Lea(d, s) => match *insn {
-            Insn::Lea { w, dst, src } => with_number_and_place(d, dst, s, src, Fields { w, ..f }),
-            _ => None,
-        },
-        Op::Extend(signed, d, s) => match *insn {
-            Insn::Extend {
-                signed: o,
-                to,
-                from,
-                dst,
-                src,
-            } if signed == o && from == letter_width(s, to) => {
-                with_number_and_place(d, dst, s, src, Fields { w: to, ..f })
-            }
-            _ => None,
-        },
-        Op::Push(s) => match *insn {
-            Insn::Push { src } => with_operand(s, src, f),
-            _ => None,
-        },
-        Op::Pop(d) => match *insn {
-            Insn::Pop { dst } => with_place(d, dst, f),
-            _ => None,
-        },
+        Op::Arith(op, d, s) => arith_fields(op, d, s, insn, f),
+        Op::Test(d, s) => test_fields(d, s, insn, f),
+        Op::Mov(d, s) => mov_fields(d, s, insn, f),
+        Op::Lea(d, s) => lea_fields(d, s, insn, f),
+        Op::Extend(signed, d, s) => extend_fields(signed, d, s, insn, f),
+        Op::Push(s) => push_fields(s, insn, f),
+        Op::Pop(d) => pop_fields(d, insn, f),
         Op::Leave => match *insn {
             Insn::Leave => Some(f),
             _ => None,
@@ -189,88 +456,15 @@ fn found_in(operation: Op, insn: &Insn, f: Fields) -> Option<Fields>
             Insn::PopFlags => Some(f),
             _ => None,
         },
-        Op::Unary(op, d) => match *insn {
-            Insn::Unary { op: o, w, dst } if op == o => with_place(d, dst, Fields { w, ..f }),
-            _ => None,
-        },
-        Op::Wide(op, s) => match *insn {
-            Insn::Wide { op: o, w, src } if op == o => with_place(s, src, Fields { w, ..f }),
-            _ => None,
-        },
-        Op::Imul2(d, s) => match *insn {
-            Insn::Imul2 { w, dst, src } => with_number_and_place(d, dst, s, src, Fields { w, ..f }),
-            _ => None,
-        },
-        Op::Imul3(d, s, _) => match *insn {
-            Insn::Imul3 { w, dst, src, imm } => with_number_and_place(
-                d,
-                dst,
-                s,
-                src,
-                Fields { w, imm, ..f },
-            ),
-            _ => None,
-        },
-        Op::Shift(op, d, c) => match *insn {
-            Insn::Shift {
-                op: o,
-                w,
-                dst,
-                count,
-            } if op == o => { counted(c, count, with_place(d, dst, Fields { w, ..f })) }
-            _ => None,
-        },
-        Op::DoubleShift(left, d, s, c) => match *insn {
-            Insn::DoubleShift {
-                left: o,
-                w,
-                dst,
-                src,
-                count,
-            } if left == o => {
-                counted(
-                    c,
-                    count,
-                    with_place_and_number(d, dst, s, src, Fields { w, ..f }),
-                )
-            }
-            _ => None,
-        },
-        Op::Cmov(d, s) => match *insn {
-            Insn::Cmov { cond, w, dst, src } => {
-                with_number_and_place(
-                    d,
-                    dst,
-                    s,
-                    src,
-                    Fields {
-                        w,
-                        cond: cond.number(),
-                        ..f
-                    },
-                )
-            }
-            _ => None,
-        },
-        Op::Set(d) => match *insn {
-            Insn::Set { cond, dst } => with_place(
-                d,
-                dst,
-                Fields {
-                    cond: cond.number(),
-                    ..f
-                },
-            ),
-            _ => None,
-        },
-        Op::Jcc => match *insn {
-            Insn::Jcc { cond, target } => Some(Fields {
-                cond: cond.number(),
-                imm: target,
-                ..f
-            }),
-            _ => None,
-        },
+        Op::Unary(op, d) => unary_fields(op, d, insn, f),
+        Op::Wide(op, s) => wide_fields(op, s, insn, f),
+        Op::Imul2(d, s) => imul2_fields(d, s, insn, f),
+        Op::Imul3(d, s, _third) => imul3_fields(d, s, _third, insn, f),
+        Op::Shift(op, d, c) => shift_fields(op, d, c, insn, f),
+        Op::DoubleShift(left, d, s, c) => double_shift_fields(left, d, s, c, insn, f),
+        Op::Cmov(d, s) => cmov_fields(d, s, insn, f),
+        Op::Set(d) => set_fields(d, insn, f),
+        Op::Jcc => jcc_fields(insn, f),
         Op::Jrcxz => match *insn {
             Insn::Jrcxz { target } => Some(Fields { imm: target, ..f }),
             _ => None,
@@ -283,14 +477,8 @@ fn found_in(operation: Op, insn: &Insn, f: Fields) -> Option<Fields>
             Insn::Call { target } => Some(Fields { imm: target, ..f }),
             _ => None,
         },
-        Op::CallInd(s) => match *insn {
-            Insn::CallInd { src } => with_place(s, src, f),
-            _ => None,
-        },
-        Op::JmpInd(s) => match *insn {
-            Insn::JmpInd { src } => with_place(s, src, f),
-            _ => None,
-        },
+        Op::CallInd(s) => call_ind_fields(s, insn, f),
+        Op::JmpInd(s) => jmp_ind_fields(s, insn, f),
         Op::Ret => match *insn {
             Insn::Ret { pop } => Some(Fields {
                 imm: u64::from(pop),
@@ -306,49 +494,16 @@ fn found_in(operation: Op, insn: &Insn, f: Fields) -> Option<Fields>
             Insn::SignFill { w } => Some(Fields { w, ..f }),
             _ => None,
         },
-        Op::Xchg(d, s) => match *insn {
-            Insn::Xchg { w, dst, src } => with_place_and_reg(d, dst, s, src, Fields { w, ..f }),
-            _ => None,
-        },
+        Op::Xchg(d, s) => xchg_fields(d, s, insn, f),
         Op::Nop => match *insn {
             Insn::Nop => Some(f),
             _ => None,
         },
-        Op::Bswap(d) => match *insn {
-            Insn::Bswap { w, reg } => with_number(d, reg, Fields { w, ..f }),
-            _ => None,
-        },
-        Op::BitTest(op, d, i) => match *insn {
-            Insn::BitTest {
-                op: o,
-                w,
-                dst,
-                index,
-            } if op == o => { indexed(i, index, with_place(d, dst, Fields { w, ..f })) }
-            _ => None,
-        },
-        Op::Scan(op, d, s) => match *insn {
-            Insn::Scan { op: o, w, dst, src } if op == o => {
-                with_number_and_place(d, dst, s, src, Fields { w, ..f })
-            }
-            _ => None,
-        },
-        Op::Movs => match *insn {
-            Insn::Movs { w, rep } => Some(Fields {
-                w,
-                rep: rep_byte(rep),
-                ..f
-            }),
-            _ => None,
-        },
-        Op::Stos => match *insn {
-            Insn::Stos { w, rep } => Some(Fields {
-                w,
-                rep: rep_byte(rep),
-                ..f
-            }),
-            _ => None,
-        },
+        Op::Bswap(d) => bswap_fields(d, insn, f),
+        Op::BitTest(op, d, i) => bit_test_fields(op, d, i, insn, f),
+        Op::Scan(op, d, s) => scan_fields(op, d, s, insn, f),
+        Op::Movs => movs_fields(insn, f),
+        Op::Stos => stos_fields(insn, f),
         Op::Flag(op) => match *insn {
             Insn::Flag { op: o } if op == o => Some(f),
             _ => None,
