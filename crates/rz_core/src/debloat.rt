@@ -3,7 +3,7 @@
 ghost use Rattle.std.specs.Prelude.{◌≡◌, ◌≤◌, IfOk, IfErr, OnOk};
 ghost use Rattle.rz_outside.specs.StoreAnswers.{SameFiles, SameOthers, Holds};
 ghost use Rattle.rz_outside.specs.StoreCalls.{store_calls, Held};
-ghost use Rattle.rz_sys.specs.Input.{IsEmptyInput};
+ghost use Rattle.rz_sys.specs.Input.{IsValid};
 ghost use Rattle.rz_core.specs.Words.{Debloating};
 ghost use Rattle.rz_core.specs.Commands.{words_of};
 ghost use Rattle.rz_core.specs.Inputs.{HoldsInput};
@@ -40,7 +40,7 @@ fn read_input<S: Store>(alloc: Global, store: &mut S, name: &Text) -> Result<Inp
     ensures telling { S.told store.new ≡ S.told store.old }
     ensures kept { SameFiles (S.files store.old) (S.files store.new) }
     ensures count { S.faults store.old ≤ S.faults store.new }
-    ensures empty { IfOk result IsEmptyInput }
+    ensures valid { IfOk result IsValid }
     ensures read { IfOk result
         (HoldsInput (Held (store_calls S.Store store.old store.new)) name.now) }
     ensures cause { IfErr result

@@ -7,7 +7,7 @@ ghost use Rattle.rz_machine.specs.LeftCode.{StaysInCode};
 ghost use Rattle.rz_machine.specs.Recorded.{IsUncut};
 ghost use Rattle.rz_rewrite.specs.Rewritten.{CanRewrite};
 ghost use Rattle.rz_machine.specs.Traced.{kept_in};
-ghost use Rattle.rz_sys.specs.Input.{IsEmptyInput};
+ghost use Rattle.rz_sys.specs.Input.{IsValid};
 ghost use Rattle.rz_machine.specs.WrittenFile.{Inert};
 ghost use Rattle.rz_core.specs.Decoding.{decode_early};
 ghost use Rattle.rz_core.specs.Debloated.{IsDebloated, kept_of, traced, report_of};
@@ -44,9 +44,9 @@ pub struct Made {
     pub report: Bytes,
 }
 
-/// Debloats a file for its run of `limit` steps on an input, which has to be empty so far.
+/// Debloats a file for its run of `limit` steps on a valid input.
 pub fn make(alloc: Global, elf: &Elf, input: &Input, limit: u64) -> Result<Made, MakeRefusal>
-    requires input { IsEmptyInput input.now }
+    requires input { IsValid input.now }
     requires some { 1 ≤ limit }
     ensures made { IfOk result (λ m. IsDebloated limit elf.now.bytes (input.now ∷ []) m.bytes) }
     ensures report { IfOk result (λ m. m.report ≡ report_of limit elf.now.bytes (input.now ∷ [])) }
@@ -63,7 +63,7 @@ pub fn make(alloc: Global, elf: &Elf, input: &Input, limit: u64) -> Result<Made,
 
 // What the run of a file on an input records in its first `limit` steps.
 fn record_run(alloc: Global, elf: &Elf, input: &Input, limit: u64) -> Result<Record, MakeRefusal>
-    requires input { IsEmptyInput input.now }
+    requires input { IsValid input.now }
     requires some { 1 ≤ limit }
     ensures kept { IfOk result (λ kept. kept_in kept ≡ kept_of limit elf.now.bytes (input.now ∷ [])) }
     ensures plausible { IfOk result (λ kept.
