@@ -1,6 +1,7 @@
-pub mod FormLaws
 pub mod ReadLaws
 pub mod CourseLaws
 pub mod CauseLaws
 pub mod ExactLaws
+pub mod EndLaws
 pub mod MadeLaws
+pub mod DebloatLaws

@@ -30,7 +30,7 @@ use Rattle.rz_image.specs.Laws.Cells.{IsFixed, all_map, none_self_written}
 use Rattle.rz_elf.specs.Laws.PlainAccepted.{accepted_plain}
 use Rattle.rz_core.specs.Texts.{report_text}
 use Rattle.rz_core.specs.Debloated.{traced, kept_of, rip_reach_of, no_room_of, IsDebloated, report_of}
-use Rattle.rz_core.specs.Making.{plain_report}
+use Rattle.rz_core.specs.Calls.Making.{plain_report}
 
 -- each item of a list of bytes is one
 each_byte : (xs : List ℕ) → ((i : ℕ) → slice_index xs i < 256) → AllByRecursion (λ b. b < 256) xs

@@ -1,70 +1,57 @@
 -- What a bounded read says of the whole file.
-use Rattle.std.proofs.Common.{◌≡◌, ◌≢◌, ◌==◌, ◌++◌, drop, if◌then◌else◌, ⊎_elim, Option, Some, None, lt-ltb, Bool, true, false, eqb-true, eq-eqb, ℕ, ◌<◌, ◌≤◌, List, [], ◌∷◌, length, take, min, refl, sym, ap, ◌∙◌, arith, take_all, length-take}
+use Rattle.std.proofs.Common.{◌≡◌, ◌≢◌, inl, inr, ◌++◌, drop, if◌then◌else◌, ⊎_elim, Option, Some, None, lt-ltb, Bool, true, false, ℕ, ◌+◌, ◌<◌, ◌≤◌, List, length, take, min, refl, sym, ap, ◌∙◌, arith, take_all, length-take}
 use Rattle.std.proofs.lemmas.Bool.{cases_lt}
-use Rattle.std.specs.Prelude.{IsTrue, Err}
+use Rattle.std.specs.Prelude.{IsTrue}
 use Rattle.rz_outside.specs.StoreAnswers.{Files, ReadsFirst}
-use Rattle.rz_core.specs.Inputs.{input_of}
-use Rattle.rz_elf.specs.declared.fault.ElfFault.{ElfFault}
 use Rattle.rz_elf.specs.declared.fault.ElfFault.TheVariants as fault
 use Rattle.rz_elf.specs.Elf.{Condition, first_of, file_conditions, header_conditions, load_conditions, placed, loads, file_header, fault_of}
+use Rattle.rz_input.specs.declared.error.InputError.{InputError}
+use Rattle.rz_input.specs.declared.error.InputError.TheVariants as error
+use Rattle.rz_input.specs.Fault.{fault_of as input_fault_of, fault_of_line}
+use Rattle.rz_input.specs.Value.{input_of}
+use Rattle.rz_sys.specs.declared.input.Input.{Input}
+use Rattle.rz_text.specs.Fault.{line_fault}
+use Rattle.rz_outside.specs.StoreCalls.{StoreCalls, Held}
+use Rattle.rz_core.specs.Inputs.{HoldsInput}
+use Rattle.rz_core.specs.Reading.{InputNumber, FileRefusal, wanted}
+use Rattle.rz_core.specs.Calls.Programs.{input_refusal}
+use Rattle.rz_core.proofs.ExactLaws.{not_both}
 
--- a file of too many bytes
-long_fault : (x : List ℕ) → 67108864 < length x → fault_of x ≡ Some fault.Long
+-- a test that refuses each list of more than `most` bytes in one way tells as much of the first bytes, one more than that, as of all
+module _ {E : Type 0} (fault : List ℕ → Option E) (most : ℕ) (long : E) (is_long : (x : List ℕ) → most < length x → fault x ≡ Some long) where
+  module _ (whole bytes : List ℕ) (first : bytes ≡ take (1 + most) whole) where
+    count : length bytes ≡ min (1 + most) (length whole)
+    count = ap length first ∙ length-take (1 + most) whole
+
+    pub fault_whole : (o : Option E) → fault bytes ≡ o → fault whole ≡ o
+    fault_whole o h = ⊎_elim more all (cases_lt most (length whole))
+      where
+        more : most < length whole → fault whole ≡ o
+        more lt = let n = count in is_long whole lt ∙ (sym (is_long bytes (omega (arith, n, lt))) ∙ h)
+
+        all : length whole ≤ most → fault whole ≡ o
+        all le = ap fault (sym (first ∙ take_all (1 + most) whole (omega arith))) ∙ h
+
+    -- what isn't refused was read whole
+    pub read_whole : fault bytes ≡ None → bytes ≡ whole
+    read_whole h = ⊎_elim more all (cases_lt most (length whole))
+      where
+        more : most < length whole → bytes ≡ whole
+        more lt = let n = count in absurd (not_both (fault bytes) long (is_long bytes (omega (arith, n, lt))) h)
+
+        all : length whole ≤ most → bytes ≡ whole
+        all le = first ∙ take_all (1 + most) whole (omega arith)
+
+-- an executable of too many bytes
+pub long_executable : (x : List ℕ) → 67108864 < length x → fault_of x ≡ Some fault.Long
 unfolding fault_of
-long_fault x long =
+long_executable x long =
     let rest : List Condition = drop 1 (file_conditions x) ++ (header_conditions (length x) (placed x) ++ load_conditions (file_header x).entry (loads x)) in
     ap (λ b. if b then Some fault.Long else first_of rest) (lt-ltb 67108864 (length x) long)
 
--- the fault of the first bytes is that of the whole file
-pub fault_whole : (whole bytes : List ℕ) (o : Option ElfFault) → bytes ≡ take 67108865 whole → fault_of bytes ≡ o → fault_of whole ≡ o
-fault_whole whole bytes o e h = ⊎_elim short long (cases_lt 67108865 (length whole))
-  where
-    n : length bytes ≡ min 67108865 (length whole)
-    n = ap length e ∙ length-take 67108865 whole
-
-    short : 67108865 < length whole → fault_of whole ≡ o
-    short lt =
-        let k = n in
-        long_fault whole (omega arith) ∙ sym (long_fault bytes (omega (arith, k, lt))) ∙ h
-
-    long : length whole ≤ 67108865 → fault_of whole ≡ o
-    long le = ap fault_of (sym (e ∙ take_all 67108865 whole le)) ∙ h
-
--- an accepted file was read whole
-pub accepted_whole : (whole bytes : List ℕ) → bytes ≡ take 67108865 whole → fault_of bytes ≡ None → bytes ≡ whole
-accepted_whole whole bytes e h = ⊎_elim short long (cases_lt 67108865 (length whole))
-  where
-    not_both : (o : Option ElfFault) (f : ElfFault) → o ≡ Some f → o ≡ None → ⊥
-    not_both o f a b = let g : Some f ≡ None = sym a ∙ b in cc
-
-    n : length bytes ≡ min 67108865 (length whole)
-    n = ap length e ∙ length-take 67108865 whole
-
-    short : 67108865 < length whole → bytes ≡ whole
-    short lt = let k = n in absurd (not_both (fault_of bytes) fault.Long (long_fault bytes (omega (arith, k, lt))) h)
-
-    long : length whole ≤ 67108865 → bytes ≡ whole
-    long le = e ∙ take_all 67108865 whole le
-
--- a file is empty exactly where its first bytes are
-pub empty_whole : (max : ℕ) (whole bytes : List ℕ) → 0 < max → bytes ≡ take max whole → length bytes ≡ 0 → whole ≡ []
-empty_whole max [] bytes some e none = refl
-empty_whole max (b ∷ whole) bytes some e none =
-    let n : length bytes ≡ min max (length (b ∷ whole)) = ap length e ∙ length-take max (b ∷ whole) in
-    absurd (omega arith)
-
-pub some_whole : (max : ℕ) (whole bytes : List ℕ) → bytes ≡ take max whole → 0 < length bytes → whole ≢ []
-some_whole max whole bytes e some none =
-    let n : length bytes ≡ min max (length whole) = ap length e ∙ length-take max whole in
-    let z : length whole ≡ 0 = ap length none in
-    omega arith
-
--- what the test of emptiness says
-pub none_of : (b : Bool) (xs ys : List ℕ) → xs ≡ ys → b ≡ (length xs == 0) → b ≡ true → length ys ≡ 0
-none_of b xs ys same e t = ap length (sym same) ∙ eqb-true (length xs) 0 (sym e ∙ t)
-
-pub some_of : (b : Bool) (xs ys : List ℕ) → xs ≡ ys → b ≡ (length xs == 0) → b ≡ false → 0 < length ys
-some_of b xs ys same e f = let ne : length xs ≢ 0 = λ z. (let t : (length xs == 0) ≡ true = eq-eqb (length xs) 0 z in let u : (length xs == 0) ≡ false = sym e ∙ f in cc) in let l = ap length same in omega arith
+-- an input of too many bytes
+pub long_input : (x : List ℕ) → 16777216 < length x → input_fault_of x ≡ Some (error.BadLine 0)
+long_input x long = ap (λ b. if b then Some (error.BadLine 0) else line_fault fault_of_line x) (lt-ltb 16777216 (length x) long)
 
 -- what holds of the first bytes, and then of the whole file, holds of what was read
 pub of_read : (told : Bool) (files : Files) (name : List ℕ) (max : ℕ) (bytes : List ℕ) (P : List ℕ → Type 0) → ReadsFirst told files name max bytes → P bytes
@@ -72,7 +59,24 @@ pub of_read : (told : Bool) (files : Files) (name : List ℕ) (max : ℕ) (bytes
 of_read true files name max bytes P reads here up = let r = reads refl in (r.0, λ t. r.1, up r.0 r.2)
 of_read false files name max bytes P reads here up = (bytes, λ t. absurd (cc), here)
 
--- a file that isn't empty holds no input so far
-pub no_input : (x : List ℕ) → x ≢ [] → input_of x ≡ Err 1
-no_input [] some = absurd (some refl)
-no_input (b ∷ bytes) some = refl
+-- an input is refused for what its first bytes say, or for want of memory
+pub input_refused : (k : ℕ) (s : StoreCalls) (name bytes : List ℕ) (e : InputError) → ReadsFirst s.told s.old name 16777217 bytes → (e ≢ error.OutOfMemory → input_fault_of bytes ≡ Some e)
+    → FileRefusal (wanted name (InputNumber k)) s (input_refusal k e)
+input_refused k s name bytes e reads why = by_fault e why
+  where
+    read_of : (f : InputError) → input_fault_of bytes ≡ Some f → (x : List ℕ) × (IsTrue s.told → s.old name ≡ Some x) × (input_fault_of x ≡ Some f)
+    read_of f h = of_read s.told s.old name 16777217 bytes (λ x. input_fault_of x ≡ Some f) reads h (λ whole first. fault_whole input_fault_of 16777216 (error.BadLine 0) long_input whole bytes first (Some f) h)
+
+    by_fault : (f : InputError) → (f ≢ error.OutOfMemory → input_fault_of bytes ≡ Some f) → FileRefusal (wanted name (InputNumber k)) s (input_refusal k f)
+    by_fault error.OutOfMemory h = inl tt
+    by_fault (error.BadLine line) h = let r = read_of (error.BadLine line) (h (λ n. cc)) in inr (r.0, r.1, (error.BadLine line, refl, r.2))
+    by_fault (error.TooBig line) h = let r = read_of (error.TooBig line) (h (λ n. cc)) in inr (r.0, r.1, (error.TooBig line, refl, r.2))
+
+-- an input without a fault was read whole
+pub input_held : (s : StoreCalls) (name bytes : List ℕ) (input : Input) → ReadsFirst s.told s.old name 16777217 bytes → input_fault_of bytes ≡ None → input ≡ input_of bytes → HoldsInput (Held s) name input
+input_held s name bytes input reads none value = (
+  bytes,
+  λ told. (let r = reads told in r.1 ∙ ap Some (sym (read_whole input_fault_of 16777216 (error.BadLine 0) long_input r.0 bytes r.2 none))),
+  none,
+  value,
+)

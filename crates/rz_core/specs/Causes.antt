@@ -1,111 +1,79 @@
 -- When the tool gives which answer, and what the files and the sink hold after it.
-use Rattle.std.specs.Prelude.{◌≡◌, ◌⊎◌, ℕ, IsTrue, List, length, take, Option, Some, None}
+use Rattle.std.specs.Prelude.{◌≡◌, ◌⊎◌, ℕ, IsTrue, List, take, Option, Some, None}
 use Rattle.rz_outside.specs.Counts.{Rose}
 use Rattle.rz_outside.specs.StoreAnswers.{SameFiles, SameOthers}
 use Rattle.rz_outside.specs.StoreCalls.{StoreCalls, Held}
 use Rattle.rz_outside.specs.SinkCalls.{SinkCalls}
 use Rattle.rz_outside.specs.SinkAnswers.{appended}
-use Rattle.rz_elf.specs.Elf.{fault_of, image_of}
-use Rattle.rz_sys.specs.declared.input.Input.{Input}
-use Rattle.rz_elf.specs.declared.room.Room.{Room}
 use Rattle.rz_core.specs.declared.status.Status.{Status}
 use Rattle.rz_core.specs.declared.status.Status.TheVariants as status
-use Rattle.rz_core.specs.declared.status.Target.TheVariants as target
-use Rattle.rz_core.specs.Words.{Debloat, Check, Form, Debloating, Checking, form_of}
-use Rattle.rz_core.specs.Inputs.{HoldInputs}
-use Rattle.rz_core.specs.Reading.{Course, wanted_by}
-use Rattle.rz_core.specs.Texts.{refusal_text, check_text}
-use Rattle.rz_core.specs.Debloated.{AllStay, IsDebloated, LeavesFirst, rip_reach_of, no_room_of, report_of}
+use Rattle.rz_core.specs.Kinds.{Kind, Done, TextLost, FileLost, NoMemory, Refused, kind_of}
+use Rattle.rz_core.specs.Words.{Form, form_of}
+use Rattle.rz_core.specs.Reading.{Course, HoldAll}
+use Rattle.rz_core.specs.Texts.{refusal_text}
+use Rattle.rz_core.specs.Command.{Command}
+use Rattle.rz_core.specs.Commands.{command_of}
 
--- the files that `debloat` reads hold x and these inputs
-pub record AreRead (d : Debloat) (Holds : List ℕ → List ℕ → Type 0) (x : List ℕ) (inputs : List Input) : Type 0 where
-  pub exe : Holds d.exe x
-  pub accepted : fault_of x ≡ None
-  pub inputs_are : HoldInputs Holds d.inputs inputs
+-- the file that is written, if any, holds what the command writes there
+abbrev pub IsWritten : Option (List ℕ) → Command → StoreCalls → List (List ℕ) → Type 0
+IsWritten None c s contents = Unit {0}
+IsWritten (Some out) c s contents = (w : List ℕ) × c.New contents w × (IsTrue s.told → s.new out ≡ Some w)
 
--- w is made of them
-pub record IsNew (d : Debloat) (Holds : List ℕ → List ℕ → Type 0) (x : List ℕ) (inputs : List Input) (w : List ℕ) : Type 0 where
-  pub read : AreRead d Holds x inputs
-  pub debloated : IsDebloated d.limit x inputs w
+-- the command is done with this answer and this text
+pub record IsDone (c : Command) (s : StoreCalls) (answer : Status) (text : List ℕ) : Type 0 where
+  pub contents : List (List ℕ)
+  pub read : HoldAll (Held s) c.reads contents
+  pub ends : c.Ends contents answer
+  pub kind : kind_of answer ≡ Done
+  pub text_is : text ≡ c.text contents
+  pub written : IsWritten c.out c s contents
 
--- OUT holds what debloating makes of the files, and this is the report of it
-pub record IsReported (d : Debloat) (s : StoreCalls) (report : List ℕ) : Type 0 where
-  pub x : List ℕ
-  pub inputs : List Input
-  pub w : List ℕ
-  pub new : IsNew d (Held s) x inputs w
-  pub out : IsTrue s.told → s.new d.out ≡ Some w
-  pub report_is : report ≡ report_of d.limit x inputs
+-- it is done, up to its text
+abbrev pub IsDoneWith : Command → StoreCalls → List ℕ → Type 0
+IsDoneWith c s text = (answer : Status) × IsDone c s answer text
 
--- OUT holds a prefix of what debloating makes of the files, and a call failed
-pub record IsPart (d : Debloat) (s : StoreCalls) : Type 0 where
-  pub x : List ℕ
-  pub inputs : List Input
-  pub w : List ℕ
-  pub new : IsNew d (Held s) x inputs w
-  pub n : ℕ
-  pub out : s.new d.out ≡ Some (take n w)
-  pub rose : Rose s.before s.now
+-- what the files that it reads hold ends it with this answer
+abbrev pub EndsWith : Command → StoreCalls → Status → Type 0
+EndsWith c s answer = (contents : List (List ℕ)) × HoldAll (Held s) c.reads contents × c.Ends contents answer
 
--- what is said of an accepted file
-abbrev pub checked_text : List ℕ → List ℕ
-checked_text x = let i = image_of x in check_text (length i.loads) i.entry i.first_break
+-- it came to its write
+abbrev pub IsNew : Command → StoreCalls → List ℕ → Type 0
+IsNew c s w = (contents : List (List ℕ)) × HoldAll (Held s) c.reads contents × c.New contents w
 
--- the file that is checked is accepted, and this is said of it
-pub record IsChecked (c : Check) (s : StoreCalls) (text : List ℕ) : Type 0 where
-  pub x : List ℕ
-  pub there : Held s c.exe x
-  pub accepted : fault_of x ≡ None
-  pub text_is : text ≡ checked_text x
+-- the write of its file failed
+abbrev pub WriteFails : Option (List ℕ) → Command → StoreCalls → Type 0
+WriteFails None c s = ⊥
+WriteFails (Some out) c s = Rose s.before s.now × (s.failed ≡ out) × ((w : List ℕ) × IsNew c s w)
 
--- the command is done, and this is its text
-abbrev pub IsDone : Form → StoreCalls → List ℕ → Type 0
-IsDone (Debloating d) s text = IsReported d s text
-IsDone (Checking c) s text = IsChecked c s text
+-- the refusals that may come after the reads, by their kind
+abbrev pub LastRefusalOf : Kind → Command → StoreCalls → Status → Type 0
+LastRefusalOf Done c s answer = ⊥
+LastRefusalOf TextLost c s answer = ⊥
+LastRefusalOf FileLost c s answer = WriteFails c.out c s
+LastRefusalOf NoMemory c s answer = Unit {0}
+LastRefusalOf Refused c s answer = EndsWith c s answer
 
--- the run of an input leaves the code
-abbrev pub LeftCodeOf : Form → StoreCalls → ℕ → ℕ → Type 0
-LeftCodeOf (Debloating d) s n address =
-    (x : List ℕ) × (inputs : List Input) × AreRead d (Held s) x inputs × LeavesFirst d.limit x 1 inputs n address
-LeftCodeOf (Checking c) s n address = ⊥
-
--- no run leaves the code, and this is the least kept address whose operand is out of reach
-abbrev pub RipReachOf : Form → StoreCalls → ℕ → Type 0
-RipReachOf (Debloating d) s address =
-    (x : List ℕ) × (inputs : List Input) × AreRead d (Held s) x inputs × AllStay d.limit x inputs × (rip_reach_of d.limit x inputs ≡ Some address)
-RipReachOf (Checking c) s address = ⊥
-
--- no run leaves the code, each operand is in reach, and there is no room for the added parts
-abbrev pub NoRoomOf : Form → StoreCalls → Room → Type 0
-NoRoomOf (Debloating d) s room =
-    (x : List ℕ) × (inputs : List Input) × AreRead d (Held s) x inputs × AllStay d.limit x inputs
-    × (rip_reach_of d.limit x inputs ≡ None) × (no_room_of d.limit x inputs ≡ Some room)
-NoRoomOf (Checking c) s room = ⊥
-
--- the write of OUT failed
-abbrev pub WriteFails : Form → StoreCalls → Type 0
-WriteFails (Debloating d) s =
-    Rose s.before s.now × (s.failed ≡ d.out) × ((x : List ℕ) × (inputs : List Input) × (w : List ℕ) × IsNew d (Held s) x inputs w)
-WriteFails (Checking c) s = ⊥
-
--- the refusals that may come after the reads
-abbrev pub LastRefusal : Form → StoreCalls → Status → Type 0
-LastRefusal form s (status.LeftCode n address) = LeftCodeOf form s n address
-LastRefusal form s (status.RipReach address) = RipReachOf form s address
-LastRefusal form s (status.NoRoom room) = NoRoomOf form s room
-LastRefusal form s (status.WriteFault target.File) = WriteFails form s
-LastRefusal form s status.OutOfMemory = Unit {0}
-LastRefusal form s _ = ⊥
+abbrev pub LastRefusal : Command → StoreCalls → Status → Type 0
+LastRefusal c s answer = LastRefusalOf (kind_of answer) c s answer
 
 -- the answers that may come after the reads
-abbrev pub LastAnswer : Form → StoreCalls → SinkCalls → Status → Type 0
-LastAnswer form s k status.Ok = (text : List ℕ) × IsDone form s text
-LastAnswer form s k (status.WriteFault target.Text) = Rose k.before k.now
-LastAnswer form s k answer = LastRefusal form s answer
+abbrev pub LastAnswerOf : Kind → Command → StoreCalls → SinkCalls → Status → Type 0
+LastAnswerOf Done c s k answer = (text : List ℕ) × IsDone c s answer text
+LastAnswerOf TextLost c s k answer = Rose k.before k.now × ((text : List ℕ) × IsDoneWith c s text)
+LastAnswerOf FileLost c s k answer = WriteFails c.out c s
+LastAnswerOf NoMemory c s k answer = Unit {0}
+LastAnswerOf Refused c s k answer = EndsWith c s answer
 
--- when the tool gives which answer to a form: words that are no form are refused as such, and no others
+abbrev pub LastAnswer : Command → StoreCalls → SinkCalls → Status → Type 0
+LastAnswer c s k answer = LastAnswerOf (kind_of answer) c s k answer
+
+-- when a command gives which answer: that of the first file that is refused, and else that of its end
+abbrev pub CauseIn : Command → StoreCalls → SinkCalls → Status → Type 0
+CauseIn c s k answer = Course c.reads s (LastAnswer c s k) answer
+
+-- words that are no form are refused as such, and no others
 abbrev pub CauseOf : Option Form → StoreCalls → SinkCalls → Status → Type 0
-CauseOf (Some form) s k answer = Course (wanted_by form) s (LastAnswer form s k) answer
+CauseOf (Some form) s k answer = CauseIn (command_of form) s k answer
 CauseOf None s k status.Usage = Unit {0}
 CauseOf None s k status.OutOfMemory = Unit {0}
 CauseOf None s k _ = ⊥
@@ -113,27 +81,43 @@ CauseOf None s k _ = ⊥
 abbrev pub HasCause : List (List ℕ) → StoreCalls → SinkCalls → Status → Type 0
 HasCause words s k answer = CauseOf (form_of words) s k answer
 
--- OUT is written whole, and no other file changes
-abbrev pub IsWritten : Debloat → StoreCalls → Type 0
-IsWritten d s = SameOthers d.out s.old s.new × ((report : List ℕ) × IsReported d s report)
+-- no file changes but the one that is written, if any
+abbrev pub OthersStay : Option (List ℕ) → StoreCalls → Type 0
+OthersStay None s = SameFiles s.old s.new
+OthersStay (Some out) s = SameOthers out s.old s.new
 
--- what the files hold after the answer to `debloat`: before the write no file changes, and the write changes OUT alone,
--- which then holds the new bytes, or at a failure what it held or a prefix of them
-abbrev pub FilesAfterDebloat : Debloat → StoreCalls → Status → Type 0
-FilesAfterDebloat d s status.Ok = IsWritten d s
-FilesAfterDebloat d s (status.WriteFault target.Text) = IsWritten d s
-FilesAfterDebloat d s (status.WriteFault target.File) =
-    SameOthers d.out s.old s.new × (IsTrue s.told → (s.new d.out ≡ s.old d.out) ⊎ IsPart d s)
-FilesAfterDebloat d s status.OutOfMemory =
-    SameOthers d.out s.old s.new
-    × (IsTrue s.told → (s.new d.out ≡ s.old d.out) ⊎ (((report : List ℕ) × IsReported d s report) ⊎ IsPart d s))
-FilesAfterDebloat d s _ = SameFiles s.old s.new
+-- OUT holds a prefix of what is written there, and a call failed
+abbrev pub HoldsPart : List ℕ → Command → StoreCalls → Type 0
+HoldsPart out c s = Rose s.before s.now × ((w : List ℕ) × (n : ℕ) × IsNew c s w × (s.new out ≡ Some (take n w)))
 
--- what the files hold after an answer: only debloating changes any
+-- what OUT holds after a failed write: what it held, or a prefix of what is written there
+abbrev pub HoldsOldOrPart : List ℕ → Command → StoreCalls → Type 0
+HoldsOldOrPart out c s = IsTrue s.told → (s.new out ≡ s.old out) ⊎ HoldsPart out c s
+
+-- what OUT holds at want of memory: that, or all
+abbrev pub HoldsOldOrNew : List ℕ → Command → StoreCalls → Type 0
+HoldsOldOrNew out c s =
+    IsTrue s.told → (s.new out ≡ s.old out) ⊎ (((text : List ℕ) × IsDoneWith c s text) ⊎ HoldsPart out c s)
+
+-- what the files hold after an answer of a command that writes OUT: before the write no file changes, and the write changes OUT alone
+abbrev pub FilesAfterWrite : Kind → List ℕ → Command → StoreCalls → Type 0
+FilesAfterWrite Done out c s = SameOthers out s.old s.new × ((text : List ℕ) × IsDoneWith c s text)
+FilesAfterWrite TextLost out c s = SameOthers out s.old s.new × ((text : List ℕ) × IsDoneWith c s text)
+FilesAfterWrite FileLost out c s = SameOthers out s.old s.new × HoldsOldOrPart out c s
+FilesAfterWrite NoMemory out c s = SameOthers out s.old s.new × HoldsOldOrNew out c s
+FilesAfterWrite Refused out c s = SameFiles s.old s.new
+
+-- what the files hold after an answer: a command that writes none changes none
+abbrev pub FilesAfterOut : Option (List ℕ) → Kind → Command → StoreCalls → Type 0
+FilesAfterOut None kind c s = SameFiles s.old s.new
+FilesAfterOut (Some out) kind c s = FilesAfterWrite kind out c s
+
+abbrev pub FilesAfterIn : Command → StoreCalls → Status → Type 0
+FilesAfterIn c s answer = FilesAfterOut c.out (kind_of answer) c s
+
 abbrev pub FilesAfterForm : Option Form → StoreCalls → Status → Type 0
 FilesAfterForm None s answer = SameFiles s.old s.new
-FilesAfterForm (Some (Debloating d)) s answer = FilesAfterDebloat d s answer
-FilesAfterForm (Some (Checking c)) s answer = SameFiles s.old s.new
+FilesAfterForm (Some form) s answer = FilesAfterIn (command_of form) s answer
 
 abbrev pub FilesAfter : List (List ℕ) → StoreCalls → Status → Type 0
 FilesAfter words s answer = FilesAfterForm (form_of words) s answer
@@ -146,12 +130,19 @@ abbrev pub GotRefusal : SinkCalls → Status → Type 0
 GotRefusal k status.OutOfMemory = k.new ≡ k.old
 GotRefusal k answer = GotText k (refusal_text answer)
 
--- what the sink got at an answer, behind what it held: at Ok the command's text, and where it failed a prefix of that
+-- what the sink got at an answer, behind what it held: the command's text where it is done, and where that failed a prefix of it
+abbrev pub SinkAfterOf : Kind → Command → StoreCalls → SinkCalls → Status → Type 0
+SinkAfterOf Done c s k answer = (text : List ℕ) × IsDone c s answer text × (k.new ≡ appended k.old text)
+SinkAfterOf TextLost c s k answer = (text : List ℕ) × IsDoneWith c s text × ((n : ℕ) × (k.new ≡ appended k.old (take n text)))
+SinkAfterOf FileLost c s k answer = GotRefusal k answer
+SinkAfterOf NoMemory c s k answer = GotRefusal k answer
+SinkAfterOf Refused c s k answer = GotRefusal k answer
+
+abbrev pub SinkAfterIn : Command → StoreCalls → SinkCalls → Status → Type 0
+SinkAfterIn c s k answer = SinkAfterOf (kind_of answer) c s k answer
+
 abbrev pub SinkAfterForm : Option Form → StoreCalls → SinkCalls → Status → Type 0
-SinkAfterForm (Some form) s k status.Ok = (text : List ℕ) × IsDone form s text × (k.new ≡ appended k.old text)
-SinkAfterForm (Some form) s k (status.WriteFault target.Text) =
-    (text : List ℕ) × IsDone form s text × ((n : ℕ) × (k.new ≡ appended k.old (take n text)))
-SinkAfterForm (Some form) s k answer = GotRefusal k answer
+SinkAfterForm (Some form) s k answer = SinkAfterIn (command_of form) s k answer
 SinkAfterForm None s k answer = GotRefusal k answer
 
 abbrev pub SinkAfter : List (List ℕ) → StoreCalls → SinkCalls → Status → Type 0

@@ -1,5 +1,5 @@
 -- What debloating makes of a file and inputs: the kept set of their runs, the written file, and the report.
-use Rattle.std.specs.Prelude.{◌≡◌, ◌⊎◌, ℕ, suc, List, [], ◌∷◌, length, fold, Option, None}
+use Rattle.std.specs.Prelude.{◌≡◌, ◌⊎◌, ℕ, suc, List, [], ◌∷◌, length, map, fold, Option, Some, None}
 use Rattle.std.specs.List.{AllByRecursion}
 use Rattle.rz_machine.specs.declared.machine.Machine.{Machine}
 use Rattle.rz_sys.specs.declared.input.Input.{Input}
@@ -15,7 +15,13 @@ use Rattle.rz_machine.specs.Recorded.{IsUncut}
 use Rattle.rz_machine.specs.WrittenFile.{Inert}
 use Rattle.rz_elf.specs.declared.room.Room.{Room}
 use Rattle.rz_rewrite.specs.Refusals.{rip_reach_of as first_out_of_reach, no_room_for}
+use Rattle.rz_input.specs.Value.{input_of}
+use Rattle.rz_core.specs.declared.status.Status.{Status}
+use Rattle.rz_core.specs.declared.status.Status.TheVariants as status
 use Rattle.rz_core.specs.Texts.{report_text}
+use Rattle.rz_core.specs.Words.{Debloat}
+use Rattle.rz_core.specs.Reading.{wanted_program}
+use Rattle.rz_core.specs.Command.{Command}
 
 -- the opening state of a traced run
 abbrev pub traced : List ℕ → Input → Machine
@@ -63,3 +69,36 @@ report_of limit x inputs =
     let image = image_of x in
     report_text (added decode_early image kept).scratch (length kept.edges) (length kept.nodes)
     (site_edge_count decode_early image kept) (site_count decode_early image kept)
+
+-- how debloating ends: a run leaves the code; or else an operand is out of reach; or else there is no room for the added parts
+abbrev pub DebloatEnds : ℕ → List ℕ → List Input → Status → Type 0
+DebloatEnds limit x inputs (status.LeftCode n address) = LeavesFirst limit x 1 inputs n address
+DebloatEnds limit x inputs (status.RipReach address) = AllStay limit x inputs × (rip_reach_of limit x inputs ≡ Some address)
+DebloatEnds limit x inputs (status.NoRoom room) =
+    AllStay limit x inputs × (rip_reach_of limit x inputs ≡ None) × (no_room_of limit x inputs ≡ Some room)
+DebloatEnds limit x inputs status.Ok =
+    AllStay limit x inputs × (rip_reach_of limit x inputs ≡ None) × (no_room_of limit x inputs ≡ None)
+DebloatEnds limit x inputs _ = ⊥
+
+-- the contents are the executable and the texts of the inputs
+abbrev pub DebloatEndsBy : ℕ → List (List ℕ) → Status → Type 0
+DebloatEndsBy limit [] answer = ⊥
+DebloatEndsBy limit (x ∷ texts) answer = DebloatEnds limit x (map input_of texts) answer
+
+abbrev pub debloated_text : ℕ → List (List ℕ) → List ℕ
+debloated_text limit [] = []
+debloated_text limit (x ∷ texts) = report_of limit x (map input_of texts)
+
+abbrev pub IsDebloatedBy : ℕ → List (List ℕ) → List ℕ → Type 0
+IsDebloatedBy limit [] w = ⊥
+IsDebloatedBy limit (x ∷ texts) w = IsDebloated limit x (map input_of texts) w
+
+abbrev pub debloat_command : Debloat → Command
+debloat_command d =
+    record {
+      reads = wanted_program d.exe d.inputs;
+      Ends = DebloatEndsBy d.limit;
+      text = debloated_text d.limit;
+      out = Some d.out;
+      New = IsDebloatedBy d.limit;
+    }

@@ -4,14 +4,12 @@ use Rattle.rz_outside.specs.Counts.{Rose}
 use Rattle.rz_outside.specs.StoreAnswers.{Files}
 use Rattle.rz_outside.specs.StoreCalls.{StoreCalls}
 use Rattle.rz_outside.specs.SinkCalls.{SinkCalls}
-use Rattle.rz_elf.specs.declared.room.Room.{Room}
-use Rattle.rz_sys.specs.declared.input.Input.{Input}
 use Rattle.rz_core.specs.declared.status.Status.{Status}
 use Rattle.rz_core.specs.declared.status.Status.TheVariants as status
-use Rattle.rz_core.specs.Words.{Debloat, Form, Debloating, Checking, form_of}
-use Rattle.rz_core.specs.Reading.{Wanted, Meets, Refuses, wanted_by}
-use Rattle.rz_core.specs.Debloated.{AllStay, LeavesFirst, rip_reach_of, no_room_of}
-use Rattle.rz_core.specs.Causes.{AreRead}
+use Rattle.rz_core.specs.Words.{Form, form_of}
+use Rattle.rz_core.specs.Reading.{Wanted, Meets, Refuses, HoldAll}
+use Rattle.rz_core.specs.Command.{Command}
+use Rattle.rz_core.specs.Commands.{command_of}
 
 -- the store tells its files, and neither count rose
 pub record IsQuiet (s : StoreCalls) (k : SinkCalls) : Type 0 where
@@ -41,29 +39,19 @@ abbrev pub IsInOrder : List Wanted → Files → Type 0 → Status → Type 0
 IsInOrder [] files End answer = End
 IsInOrder (w ∷ ws) files End answer = IsAnswered files w answer × (IsFit files w → IsInOrder ws files End answer)
 
--- after its reads `debloat` answers LeftCode where a run leaves the code, then RipReach where an operand is out of reach,
--- then NoRoom where there is no room, and else Ok
-pub record EndsExactly (d : Debloat) (files : Files) (answer : Status) : Type 0 where
-  pub left_code : (x : List ℕ) (inputs : List Input) (n address : ℕ) → AreRead d (holds files) x inputs
-      → LeavesFirst d.limit x 1 inputs n address → Gives (status.LeftCode n address) answer
-  pub rip_reach : (x : List ℕ) (inputs : List Input) (address : ℕ) → AreRead d (holds files) x inputs
-      → AllStay d.limit x inputs → rip_reach_of d.limit x inputs ≡ Some address → Gives (status.RipReach address) answer
-  pub no_room : (x : List ℕ) (inputs : List Input) (room : Room) → AreRead d (holds files) x inputs
-      → AllStay d.limit x inputs → rip_reach_of d.limit x inputs ≡ None → no_room_of d.limit x inputs ≡ Some room
-      → Gives (status.NoRoom room) answer
-  pub complete : (x : List ℕ) (inputs : List Input) → AreRead d (holds files) x inputs
-      → AllStay d.limit x inputs → rip_reach_of d.limit x inputs ≡ None → no_room_of d.limit x inputs ≡ None
-      → Gives status.Ok answer
+-- a command ends as what the files hold says
+abbrev pub EndsExactly : Command → Files → Status → Type 0
+EndsExactly c files answer =
+    (contents : List (List ℕ)) (st : Status) → HoldAll (holds files) c.reads contents → c.Ends contents st → Gives st answer
 
--- `check` answers Ok
-abbrev pub LastExact : Form → Files → Status → Type 0
-LastExact (Debloating d) files answer = EndsExactly d files answer
-LastExact (Checking c) files answer = Gives status.Ok answer
+-- the answer of a command
+abbrev pub IsExactIn : Command → Files → Status → Type 0
+IsExactIn c files answer = IsInOrder c.reads files (EndsExactly c files answer) answer
 
 -- where nothing outside fails the answer is exact; words that are no form are refused in any case
 abbrev pub IsExactOf : Option Form → StoreCalls → SinkCalls → Status → Type 0
 IsExactOf None s k answer = Gives status.Usage answer
-IsExactOf (Some form) s k answer = IsQuiet s k → IsInOrder (wanted_by form) s.old (LastExact form s.old answer) answer
+IsExactOf (Some form) s k answer = IsQuiet s k → IsExactIn (command_of form) s.old answer
 
 abbrev pub IsExact : List (List ℕ) → StoreCalls → SinkCalls → Status → Type 0
 IsExact words s k answer = IsExactOf (form_of words) s k answer

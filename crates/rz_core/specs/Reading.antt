@@ -1,15 +1,15 @@
 -- The files that a command reads, in order, and how each is refused.
-use Rattle.std.specs.Prelude.{◌≡◌, ◌⊎◌, ℕ, suc, List, [], ◌∷◌, Ok, Err, Some, None}
+use Rattle.std.specs.Prelude.{◌≡◌, ◌⊎◌, ℕ, suc, List, [], ◌∷◌, Some, None}
 use Rattle.rz_outside.specs.Counts.{Rose}
 use Rattle.rz_outside.specs.StoreAnswers.{IsMissing}
 use Rattle.rz_outside.specs.StoreCalls.{StoreCalls, Held}
 use Rattle.rz_elf.specs.declared.fault.ElfFault.{ElfFault}
 use Rattle.rz_elf.specs.Elf.{fault_of}
-use Rattle.rz_sys.specs.declared.input.Input.{Input}
+use Rattle.rz_input.specs.declared.error.InputError.{InputError}
+use Rattle.rz_input.specs.Fault.{fault_of as input_fault_of}
 use Rattle.rz_core.specs.declared.status.Status.{Status}
 use Rattle.rz_core.specs.declared.status.Status.TheVariants as status
-use Rattle.rz_core.specs.Inputs.{input_of}
-use Rattle.rz_core.specs.Words.{Form, Debloating, Checking}
+use Rattle.rz_core.specs.Inputs.{line_of}
 
 -- what a file has to be: an accepted file, or the input of this number
 pub data Demand : Type 0 where
@@ -29,20 +29,20 @@ abbrev pub wanted_inputs : ℕ → List (List ℕ) → List Wanted
 wanted_inputs k [] = []
 wanted_inputs k (name ∷ names) = wanted name (InputNumber k) ∷ wanted_inputs (suc k) names
 
--- the files that a form reads, in order
-abbrev pub wanted_by : Form → List Wanted
-wanted_by (Debloating d) = wanted d.exe Accepted ∷ wanted_inputs 1 d.inputs
-wanted_by (Checking c) = wanted c.exe Accepted ∷ []
+-- an executable, and inputs for it
+abbrev pub wanted_program : List ℕ → List (List ℕ) → List Wanted
+wanted_program exe inputs = wanted exe Accepted ∷ wanted_inputs 1 inputs
 
 -- these bytes are what is demanded
 abbrev pub Meets : Demand → List ℕ → Type 0
 Meets Accepted x = fault_of x ≡ None
-Meets (InputNumber k) x = (input : Input) × (input_of x ≡ Ok input)
+Meets (InputNumber k) x = input_fault_of x ≡ None
 
 -- they aren't, which a file of this name is refused with
 abbrev pub Refuses : Demand → List ℕ → List ℕ → Status → Type 0
 Refuses Accepted name x answer = (f : ElfFault) × (answer ≡ status.Refused name f) × (fault_of x ≡ Some f)
-Refuses (InputNumber k) name x answer = (line : ℕ) × (answer ≡ status.BadInput k line) × (input_of x ≡ Err line)
+Refuses (InputNumber k) name x answer =
+    (f : InputError) × (answer ≡ status.BadInput k (line_of f)) × (input_fault_of x ≡ Some f)
 
 -- a read of this name may fail
 abbrev pub ReadCause : StoreCalls → List ℕ → Type 0
@@ -66,3 +66,9 @@ FileRead w s = (x : List ℕ) × Held s w.name x × Meets w.demand x
 abbrev pub Course : List Wanted → StoreCalls → (Status → Type 0) → Status → Type 0
 Course [] s End answer = End answer
 Course (w ∷ ws) s End answer = FileRefusal w s answer ⊎ (FileRead w s × Course ws s End answer)
+
+-- these files hold these contents, each of them what is demanded; `Holds` says which bytes a name holds
+abbrev pub HoldAll : (List ℕ → List ℕ → Type 0) → List Wanted → List (List ℕ) → Type 0
+HoldAll Holds [] [] = Unit {0}
+HoldAll Holds (w ∷ ws) (x ∷ xs) = Holds w.name x × Meets w.demand x × HoldAll Holds ws xs
+HoldAll Holds _ _ = ⊥

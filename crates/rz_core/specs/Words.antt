@@ -1,20 +1,16 @@
 -- The forms of the command line, as lists of words.
-use Rattle.std.specs.Prelude.{ℕ, ◌+◌, ◌-◌, ◌*◌, Bool, ◌&&◌, if◌then◌else◌, nat_le, List, [], ◌∷◌, length, fold, codes, bytes_eq, Option, Some, None}
-use Rattle.std.specs.List.{list_all}
+use Rattle.std.specs.Prelude.{ℕ, Bool, ◌&&◌, if◌then◌else◌, nat_le, List, [], ◌∷◌, length, codes, bytes_eq, Option, Some, None, option_map, Result, Ok, Err}
+use Rattle.std.specs.Option.{option_or}
+use Rattle.rz_text.specs.Number.{decimal}
 
--- a decimal number: 1 to 20 digits, with leading zeros read
-abbrev pub is_digit : ℕ → Bool
-is_digit c = nat_le 48 c && nat_le c 57
+-- a number from the least to the greatest one
+abbrev pub number_within : ℕ → ℕ → Result ℕ ℕ → Option ℕ
+number_within least greatest (Ok n) = if nat_le least n && nat_le n greatest then Some n else None
+number_within least greatest (Err place) = None
 
-abbrev pub digits_value : List ℕ → ℕ
-digits_value word = fold (λ n c. 10 * n + (c - 48)) 0 word
-
-abbrev pub is_number : List ℕ → Bool
-is_number word = list_all is_digit word && nat_le 1 (length word) && nat_le (length word) 20
-
--- how many steps a run may take: 1 to 1,000,000,000
-abbrev pub is_limit : List ℕ → Bool
-is_limit word = is_number word && nat_le 1 (digits_value word) && nat_le (digits_value word) 1000000000
+-- how many steps a run may take, in decimal: 1 to 1,000,000,000
+abbrev pub limit_of : List ℕ → Option ℕ
+limit_of word = number_within 1 1000000000 (decimal word)
 
 -- a name is any word that isn't empty
 abbrev pub is_name : List ℕ → Bool
@@ -27,16 +23,16 @@ pub record Debloat : Type 0 where
   pub out : List ℕ
   pub inputs : List (List ℕ)
 
-abbrev pub is_debloat : List ℕ → List ℕ → List ℕ → List ℕ → List ℕ → List ℕ → List ℕ → Bool
-is_debloat command exe classes level limit out input =
+abbrev pub is_debloat : List ℕ → List ℕ → List ℕ → List ℕ → List ℕ → List ℕ → Bool
+is_debloat command exe classes level out input =
     bytes_eq command (codes "debloat") && is_name exe && bytes_eq classes (codes "-") && bytes_eq level (codes "exact")
-    && is_limit limit && is_name out && is_name input
+    && is_name out && is_name input
 
 -- the words of `debloat`
 abbrev pub debloat_of : List (List ℕ) → Option Debloat
 debloat_of (command ∷ exe ∷ classes ∷ level ∷ limit ∷ out ∷ input ∷ []) =
-    if is_debloat command exe classes level limit out input
-    then Some (record { exe = exe; limit = digits_value limit; out = out; inputs = input ∷ [] })
+    if is_debloat command exe classes level out input
+    then option_map (λ n. record { exe = exe; limit = n; out = out; inputs = input ∷ [] }) (limit_of limit)
     else None
 debloat_of _ = None
 
@@ -56,14 +52,6 @@ pub data Form : Type 0 where
   Debloating : Debloat → Form
   Checking : Check → Form
 
-abbrev checking : Option Check → Option Form
-checking None = None
-checking (Some c) = Some (Checking c)
-
-abbrev pub first_form : Option Debloat → Option Check → Option Form
-first_form (Some d) c = Some (Debloating d)
-first_form None c = checking c
-
 -- the form that the words have, if any
 abbrev pub form_of : List (List ℕ) → Option Form
-form_of words = first_form (debloat_of words) (check_of words)
+form_of words = option_or (option_map Debloating (debloat_of words)) (option_map Checking (check_of words))

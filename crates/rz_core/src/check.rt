@@ -1,12 +1,12 @@
 //! The command `check`: whether a file is accepted, and what it loads.
 
-ghost use Rattle.std.specs.Prelude.{◌≡◌, ◌≤◌, IfOk, IfErr};
-ghost use Rattle.rz_outside.specs.StoreAnswers.{SameFiles};
+ghost use Rattle.std.specs.Prelude.{◌≡◌, ◌≤◌, IfOk};
 ghost use Rattle.rz_outside.specs.StoreCalls.{store_calls};
-ghost use Rattle.rz_core.specs.Causes.{IsChecked, checked_text};
-ghost use Rattle.rz_core.specs.Commands.{check_words_of};
-ghost use Rattle.rz_core.specs.Reading.{Accepted, FileRefusal, wanted};
+ghost use Rattle.rz_core.specs.Checked.{checked_text};
+ghost use Rattle.rz_core.specs.Calls.Held.{checking};
+ghost use Rattle.rz_core.specs.Calls.Carried.{IsCarriedOut};
 
+use crate::answer::Answer;
 use crate::reading::read_accepted;
 use crate::status::Status;
 use crate::texts;
@@ -17,17 +17,17 @@ use rz_outside::Store;
 use std::alloc::Global;
 
 /// `check EXE`: the text, or the refusal. No file changes.
-pub fn check<S: Store>(alloc: Global, c: &Check<'_>, store: &mut S) -> Result<Bytes, Status>
+pub fn check<S: Store>(alloc: Global, c: &Check<'_>, store: &mut S) -> Result<Answer, Status>
     ensures telling { S.told store.new ≡ S.told store.old }
-    ensures kept { SameFiles (S.files store.old) (S.files store.new) }
     ensures count { S.faults store.old ≤ S.faults store.new }
-    ensures done { IfOk result (IsChecked (check_words_of c.now) (store_calls S.Store store.old store.new)) }
-    ensures cause { IfErr result
-        (FileRefusal (wanted c.now.exe.now Accepted) (store_calls S.Store store.old store.new)) }
+    ensures carried { IsCarriedOut (checking c.now) (store_calls S.Store store.old store.new) result }
 {
     let elf = read_accepted(alloc, store, c.exe)?;
     match text_of(alloc, &elf) {
-        Ok(text) => Ok(text),
+        Ok(text) => Ok(Answer {
+            status: Status::Ok,
+            text,
+        }),
         Err(OutOfMemory) => Err(Status::OutOfMemory),
     }
 }

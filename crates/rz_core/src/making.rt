@@ -7,35 +7,23 @@ ghost use Rattle.rz_machine.specs.LeftCode.{StaysInCode};
 ghost use Rattle.rz_machine.specs.Recorded.{IsUncut};
 ghost use Rattle.rz_rewrite.specs.Rewritten.{CanRewrite};
 ghost use Rattle.rz_machine.specs.Traced.{kept_in};
-ghost use Rattle.rz_sys.specs.Input.{IsEmptyInput};
+ghost use Rattle.rz_sys.specs.Input.{IsValid};
 ghost use Rattle.rz_machine.specs.WrittenFile.{Inert};
 ghost use Rattle.rz_core.specs.Decoding.{decode_early};
 ghost use Rattle.rz_core.specs.Debloated.{IsDebloated, kept_of, traced, report_of};
 ghost use Rattle.rz_rewrite.specs.Refusals.{IsRefusal, no_room_for, rip_reach_of};
-ghost use Rattle.rz_core.specs.Making.{MakeRefused, plain_report};
+ghost use Rattle.rz_core.specs.Calls.Making.{MakeRefusal, plain_report};
 ghost use Rattle.rz_core.specs.Texts.{report_text};
 
+use crate::status::Status;
 use crate::texts;
 use rz_elf::elf::Elf;
-use rz_elf::room::Room;
 use rz_machine::trace::{Record, TraceRefusal, trace};
 use rz_num::{Bytes, OutOfMemory, are_bytes};
 use rz_rewrite::rewrite::{New, Refusal, rewrite};
 use rz_sys::input::Input;
 use rz_table::Early;
 use std::alloc::Global;
-
-/// Why no new file was made.
-#[derive(Clone, Copy, PartialEq, Eq, Debug)]
-pub enum MakeRefusal {
-    /// The traced run came to this address, where no instruction is spelled.
-    LeftCode(u64),
-    /// The instruction at this kept address names an address relative to RIP that is out of reach.
-    RipReach(u64),
-    /// The added parts have no room in the new file.
-    NoRoom(Room),
-    OutOfMemory,
-}
 
 /// A new file, and the report of it.
 #[derive(Drop)]
@@ -44,26 +32,27 @@ pub struct Made {
     pub report: Bytes,
 }
 
-/// Debloats a file for its run of `limit` steps on an input, which has to be empty so far.
-pub fn make(alloc: Global, elf: &Elf, input: &Input, limit: u64) -> Result<Made, MakeRefusal>
-    requires input { IsEmptyInput input.now }
+/// Debloats a file for its run of `limit` steps on an input, which is the first one, or says why there is no new file:
+/// the run left the code, or an operand is out of reach, or there is no room, or no memory.
+pub fn make(alloc: Global, elf: &Elf, input: &Input, limit: u64) -> Result<Made, Status>
+    requires input { IsValid input.now }
     requires some { 1 ≤ limit }
     ensures made { IfOk result (λ m. IsDebloated limit elf.now.bytes (input.now ∷ []) m.bytes) }
     ensures report { IfOk result (λ m. m.report ≡ report_of limit elf.now.bytes (input.now ∷ [])) }
-    ensures err { IfErr result (MakeRefused limit elf.now.bytes input.now) }
+    ensures err { IfErr result (MakeRefusal limit elf.now.bytes input.now) }
 {
     let kept = record_run(alloc, elf, input, limit)?;
     match write_new(alloc, elf, &kept) {
         Ok(made) => Ok(made),
-        Err(Refusal::RipReach(address)) => Err(MakeRefusal::RipReach(address)),
-        Err(Refusal::NoRoom(room)) => Err(MakeRefusal::NoRoom(room)),
-        Err(Refusal::OutOfMemory) => Err(MakeRefusal::OutOfMemory),
+        Err(Refusal::RipReach(address)) => Err(Status::RipReach { address }),
+        Err(Refusal::NoRoom(room)) => Err(Status::NoRoom(room)),
+        Err(Refusal::OutOfMemory) => Err(Status::OutOfMemory),
     }
 }
 
 // What the run of a file on an input records in its first `limit` steps.
-fn record_run(alloc: Global, elf: &Elf, input: &Input, limit: u64) -> Result<Record, MakeRefusal>
-    requires input { IsEmptyInput input.now }
+fn record_run(alloc: Global, elf: &Elf, input: &Input, limit: u64) -> Result<Record, Status>
+    requires input { IsValid input.now }
     requires some { 1 ≤ limit }
     ensures kept { IfOk result (λ kept. kept_in kept ≡ kept_of limit elf.now.bytes (input.now ∷ [])) }
     ensures plausible { IfOk result (λ kept.
@@ -71,14 +60,14 @@ fn record_run(alloc: Global, elf: &Elf, input: &Input, limit: u64) -> Result<Rec
     ensures stays { OnOk result (StaysInCode decode_early limit (traced elf.now.bytes input.now)) }
     ensures uncut { IfOk result (λ kept.
         IsUncut decode_early kept.edges (traced elf.now.bytes input.now) limit) }
-    ensures err { IfErr result (MakeRefused limit elf.now.bytes input.now) }
+    ensures err { IfErr result (MakeRefusal limit elf.now.bytes input.now) }
 {
     are_bytes(elf.bytes.as_slice());
     let mut kept = Record::new(alloc);
     match trace::<Early>(alloc, elf, input, limit, &mut kept) {
         Ok(()) => Ok(kept),
-        Err(TraceRefusal::LeftCode(address)) => Err(MakeRefusal::LeftCode(address)),
-        Err(TraceRefusal::OutOfMemory) => Err(MakeRefusal::OutOfMemory),
+        Err(TraceRefusal::LeftCode(address)) => Err(Status::LeftCode { input: 1, address }),
+        Err(TraceRefusal::OutOfMemory) => Err(Status::OutOfMemory),
     }
 }
 

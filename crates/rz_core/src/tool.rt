@@ -3,30 +3,33 @@
 ghost use Rattle.std.specs.Prelude.{◌≡◌, ◌≤◌, ◌↔◌, IsSome};
 ghost use Rattle.rz_outside.specs.StoreCalls.{store_calls};
 ghost use Rattle.rz_outside.specs.SinkCalls.{sink_calls};
-ghost use Rattle.rz_core.specs.Commands.{debloating, checking};
+ghost use Rattle.rz_core.specs.Commands.{command_of};
 ghost use Rattle.rz_core.specs.Causes.{HasCause, FilesAfter, SinkAfter};
 ghost use Rattle.rz_core.specs.Exact.{IsExact};
 ghost use Rattle.rz_core.specs.Headline.{Headline};
-ghost use Rattle.rz_core.specs.Putting.{PutAfter, RefusedAfter};
-ghost use Rattle.rz_core.specs.Runs.{Runs};
+ghost use Rattle.rz_core.specs.Calls.Held.{form_words, HasSteps};
+ghost use Rattle.rz_core.specs.Calls.Carried.{IsCarriedOut};
+ghost use Rattle.rz_core.specs.Calls.Putting.{PutAfter, RefusedAfter, Runs};
 
+use crate::answer::Answer;
 use crate::check::check;
 use crate::debloat::debloat;
 use crate::status::{Status, Target};
 use crate::texts::refusal;
-use crate::words::{Check, Debloat, Form, read_form};
+use crate::words::{Form, read_form};
 use rz_num::{Bytes, Text};
 use rz_outside::{PutErr, Sink, Store};
 use std::alloc::Global;
 
-// Puts a command's text.
-fn put_text<K: Sink>(out: &mut K, text: &Bytes) -> Status
+// Puts the text of a command that is done.
+fn put_answer<K: Sink>(out: &mut K, answer: Answer) -> Status
     ensures telling { IsSome (K.written out.new) ↔ IsSome (K.written out.old) }
     ensures count { K.faults out.old ≤ K.faults out.new }
-    ensures after { PutAfter text.now (sink_calls K.Sink out.old out.new) result }
+    ensures after { PutAfter answer (sink_calls K.Sink out.old out.new) result }
 {
-    match out.put(text) {
-        Ok(()) => Status::Ok,
+    let Answer { status, text } = answer;
+    match out.put(&text) {
+        Ok(()) => status,
         Err(PutErr::Failed) => Status::WriteFault(Target::Text),
         Err(PutErr::OutOfMemory) => Status::OutOfMemory,
     }
@@ -53,38 +56,32 @@ fn refuse<K: Sink>(alloc: Global, out: &mut K, status: Status) -> Status
     }
 }
 
-// The command `debloat`, up to its text.
-fn run_debloat<S: Store, K: Sink>(
-    alloc: Global,
-    d: &Debloat<'_>,
-    store: &mut S,
-    out: &mut K,
-) -> Status
-    requires { 1 ≤ d.now.limit }
+// Carries out the command of a form, up to its text.
+fn carry_out<S: Store>(alloc: Global, form: &Form<'_>, store: &mut S) -> Result<Answer, Status>
+    requires { HasSteps form.now }
     ensures telling { S.told store.new ≡ S.told store.old }
-    ensures store_count { S.faults store.old ≤ S.faults store.new }
-    ensures sink_telling { IsSome (K.written out.new) ↔ IsSome (K.written out.old) }
-    ensures sink_count { K.faults out.old ≤ K.faults out.new }
-    ensures run { Runs (debloating d.now)
-        (store_calls S.Store store.old store.new) (sink_calls K.Sink out.old out.new) result }
+    ensures count { S.faults store.old ≤ S.faults store.new }
+    ensures carried { IsCarriedOut (command_of (form_words form.now))
+        (store_calls S.Store store.old store.new) result }
 {
-    match debloat(alloc, d, store) {
-        Ok(report) => put_text(out, &report),
-        Err(status) => refuse(alloc, out, status),
+    match form {
+        Form::Debloat(d) => debloat(alloc, d, store),
+        Form::Check(c) => check(alloc, c, store),
     }
 }
 
-// The command `check`, up to its text.
-fn run_check<S: Store, K: Sink>(alloc: Global, c: &Check<'_>, store: &mut S, out: &mut K) -> Status
+// Runs the command of a form.
+fn run_form<S: Store, K: Sink>(alloc: Global, form: &Form<'_>, store: &mut S, out: &mut K) -> Status
+    requires { HasSteps form.now }
     ensures telling { S.told store.new ≡ S.told store.old }
     ensures store_count { S.faults store.old ≤ S.faults store.new }
     ensures sink_telling { IsSome (K.written out.new) ↔ IsSome (K.written out.old) }
     ensures sink_count { K.faults out.old ≤ K.faults out.new }
-    ensures run { Runs (checking c.now)
+    ensures run { Runs (form_words form.now)
         (store_calls S.Store store.old store.new) (sink_calls K.Sink out.old out.new) result }
 {
-    match check(alloc, c, store) {
-        Ok(text) => put_text(out, &text),
+    match carry_out(alloc, form, store) {
+        Ok(answer) => put_answer(out, answer),
         Err(status) => refuse(alloc, out, status),
     }
 }
@@ -111,7 +108,6 @@ pub fn run_tool<S: Store, K: Sink>(
 {
     match read_form(words) {
         None => refuse(alloc, out, Status::Usage),
-        Some(Form::Debloat(d)) => run_debloat(alloc, &d, store, out),
-        Some(Form::Check(c)) => run_check(alloc, &c, store, out),
+        Some(form) => run_form(alloc, &form, store, out),
     }
 }

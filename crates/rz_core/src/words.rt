@@ -1,11 +1,12 @@
 //! The words of the command line.
 
-ghost use Rattle.std.specs.Prelude.{◌≡◌, ◌≤◌, ◌-◌, ◌*◌, ◌^◌, ◌<◌, ◌&&◌, MatchOption, IfSome, min, Some, None};
-ghost use Rattle.std.specs.List.{list_all};
-ghost use Rattle.rz_core.specs.Words.{form_of, debloat_of, check_of, is_check as is_check_of, is_digit as is_digit_of, is_number as is_number_of, digits_value, is_limit as is_limit_of, is_name as is_name_of, is_debloat as is_debloat_of};
-ghost use Rattle.rz_core.specs.Commands.{words_of, check_words_of, form_words_of, HasSteps};
+ghost use Rattle.std.specs.Prelude.{◌≡◌, ◌≤◌, MatchOption, IfSome, Some, None};
+ghost use Rattle.rz_text.specs.Number.{decimal as decimal_number};
+ghost use Rattle.rz_core.specs.Words.{form_of, debloat_of, check_of, is_check as is_check_of, is_name as is_name_of, is_debloat as is_debloat_of, number_within as number_within_of, limit_of};
+ghost use Rattle.rz_core.specs.Calls.Held.{debloat_words, check_words, form_words, HasSteps};
 
 use rz_num::Text;
+use rz_text::decimal;
 
 /// `debloat EXE - exact LIMIT OUT INPUT`.
 #[derive(Drop)]
@@ -33,7 +34,7 @@ pub enum Form<'a> {
 /// The form that the words have, if any.
 pub fn read_form(words: &Vec<Text>) -> Option<Form<'_>>
     ensures form { MatchOption result (form_of words.now.items ≡ None)
-        (λ f. form_of words.now.items ≡ Some (form_words_of f)) }
+        (λ f. form_of words.now.items ≡ Some (form_words f)) }
     ensures some { IfSome result HasSteps }
 {
     if let Some(debloat) = debloat_form(words) {
@@ -47,7 +48,7 @@ pub fn read_form(words: &Vec<Text>) -> Option<Form<'_>>
 
 fn check_form(words: &Vec<Text>) -> Option<Check<'_>>
     ensures { MatchOption result (check_of words.now.items ≡ None)
-        (λ c. check_of words.now.items ≡ Some (check_words_of c)) }
+        (λ c. check_of words.now.items ≡ Some (check_words c)) }
 {
     match words.as_slice() {
         [command, exe] if is_check(command, exe) => Some(Check { exe }),
@@ -63,15 +64,16 @@ fn is_check(command: &Text, exe: &Text) -> bool
 
 fn debloat_form(words: &Vec<Text>) -> Option<Debloat<'_>>
     ensures form { MatchOption result (debloat_of words.now.items ≡ None)
-        (λ d. debloat_of words.now.items ≡ Some (words_of d)) }
+        (λ d. debloat_of words.now.items ≡ Some (debloat_words d)) }
     ensures some { IfSome result (λ d. 1 ≤ d.limit) }
 {
     match words.as_slice() {
         [command, exe, classes, level, limit, out, input]
-            if is_debloat(command, exe, classes, level, limit, out, input) => {
+            if is_debloat(command, exe, classes, level, out, input) => {
+            let limit = steps(limit)?;
             Some(Debloat {
                 exe,
-                limit: value(limit.as_slice().as_bytes()),
+                limit,
                 out,
                 input,
             })
@@ -85,17 +87,15 @@ fn is_debloat(
     exe: &Text,
     classes: &Text,
     level: &Text,
-    limit: &Text,
     out: &Text,
     input: &Text,
 ) -> bool
-    ensures { result ≡ is_debloat_of command.now exe.now classes.now level.now limit.now out.now input.now }
+    ensures { result ≡ is_debloat_of command.now exe.now classes.now level.now out.now input.now }
 {
     command.as_slice() == "debloat"
         && is_name(exe)
         && classes.as_slice() == "-"
         && level.as_slice() == "exact"
-        && is_limit(limit)
         && is_name(out)
         && is_name(input)
 }
@@ -106,40 +106,21 @@ fn is_name(word: &Text) -> bool
     1 <= word.as_slice().len()
 }
 
-fn is_limit(word: &Text) -> bool
-    ensures { result ≡ is_limit_of word.now }
+// How many steps a run may take.
+fn steps(word: &Text) -> Option<u64>
+    ensures steps { result ≡ limit_of word.now }
+    ensures some { IfSome result (λ n. 1 ≤ n) }
 {
-    let digits = word.as_slice().as_bytes();
-    is_number(digits) && 1 <= value(digits) && value(digits) <= 1_000_000_000
+    number_within(word, 1, 1_000_000_000)
 }
 
-fn is_number(word: &[u8]) -> bool
-    ensures { result ≡ is_number_of word.now }
+// A decimal number from the least to the greatest one.
+fn number_within(word: &Text, least: u64, greatest: u64) -> Option<u64>
+    ensures number { result ≡ number_within_of least greatest (decimal_number word.now) }
+    ensures some { IfSome result (λ n. least ≤ n) }
 {
-    all_digits(word) && 1 <= word.len() && word.len() <= 20
-}
-
-fn all_digits(word: &[u8]) -> bool
-    ensures { result ≡ list_all is_digit_of word.now }
-{
-    word.iter().all(|c| is_digit(*c))
-}
-
-fn is_digit(c: u8) -> bool
-    ensures { result ≡ is_digit_of c }
-{
-    48 <= c && c <= 57
-}
-
-// The number that the digits make, or 2^64 - 1 where it is greater.
-fn value(digits: &[u8]) -> u64
-    ensures { result ≡ min (digits_value digits.now) (2 ^ 64 - 1) }
-{
-    let mut n = 0u64;
-    for c in digits {
-        n = n
-            .saturating_mul(10)
-            .saturating_add(c.saturating_sub(48) as u64);
+    match decimal(word.as_slice().as_bytes()) {
+        Ok(n) if least <= n && n <= greatest => Some(n),
+        _ => None,
     }
-    n
 }

@@ -16,3 +16,5 @@ pub mod TraceTurns
 pub mod Calls
 pub mod RunTurns
 pub mod StartRegions
+pub mod StackLaws
+mod StartRows

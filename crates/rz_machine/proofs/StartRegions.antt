@@ -1,30 +1,26 @@
 -- The regions in which a run begins.
-use Rattle.std.proofs.Common.{◌≡◌, ℕ, ◌+◌, [], ◌∷◌, ◌++◌, length, map, refl, ap, ◌∙◌, arith, append-nil}
-use Rattle.rz_image.specs.Memory.{Ascend, zeros}
-use Rattle.rz_sys.specs.Input.{empty_input}
-use Rattle.rz_machine.specs.Start.{heap_region, stack_region, stack_bytes, first_rsp}
+use Rattle.std.proofs.Common.{◌≡◌, ◌≤◌, [], ◌∷◌, ◌++◌, length, map, ap₂, ◌∙◌, append_assoc, arith}
+use Rattle.rz_image.specs.declared.region.Region.{Region}
+use Rattle.rz_image.specs.Memory.{Regions, Ascend}
+use Rattle.rz_image.specs.Laws.Zeros.{length-zeros}
+use Rattle.rz_sys.specs.declared.input.Input.{Input}
+use Rattle.rz_sys.specs.Input.{strings}
+use Rattle.rz_machine.specs.Start.{heap_region, stack_region}
 use Rattle.rz_elf.specs.Loaded.{ElfFile, loaded_region, IsRead}
 use Rattle.rz_elf.specs.Laws.Loads.{ascend_read, low_break}
-use Rattle.rz_image.specs.Laws.Zeros.{length-zeros, zeros-append-zeros}
-
-words_are_zeros : 0 ∷ 0 ∷ 0 ∷ 0 ∷ 0 ∷ 0 ∷ 0 ∷ 0 ∷ 0 ∷ 0 ∷ 0 ∷ 0 ∷ 0 ∷ 0 ∷ 0 ∷ 0 ∷ 0 ∷ 0 ∷ 0 ∷ 0 ∷ 0 ∷ 0 ∷ 0 ∷ 0 ∷ 0 ∷ 0 ∷ 0 ∷ 0 ∷ 0 ∷ 0 ∷ 0 ∷ 0 ∷ 0 ∷ 0 ∷ 0 ∷ 0 ∷ 0 ∷ 0 ∷ 0 ∷ 0 ∷ [] ≡ zeros 40
-unfolding zeros
-words_are_zeros = refl
-
-three_zeros : (a b : ℕ) → zeros a ++ (zeros 40 ++ (zeros b ++ [])) ≡ zeros (a + (40 + b))
-three_zeros a b =
-    ap (λ l. zeros a ++ (zeros 40 ++ l)) (append-nil (zeros b)) ∙ ap (λ l. zeros a ++ l) (zeros-append-zeros 40 b) ∙ zeros-append-zeros a (40 + b)
-
--- with no arguments the stack is zeros
-pub stack_bytes-nil : stack_bytes [] ≡ zeros 1048576
-unfolding stack_bytes first_rsp
-stack_bytes-nil = ap (λ l. zeros 1048528 ++ (l ++ (zeros 8 ++ []))) words_are_zeros ∙ three_zeros 1048528 8
+use Rattle.rz_machine.proofs.StackLaws.{length-stack_bytes}
 
 -- the regions of a run ascend: the loads, the heap and the stack
-pub start_ascends : (elf : ElfFile) → IsRead elf → Ascend (map (loaded_region elf.bytes) elf.loads ++ heap_region elf.first_break ∷ stack_region empty_input ∷ [])
-start_ascends elf is =
+pub start_ascends : (elf : ElfFile) (input : Input) → IsRead elf → length (strings input.args) ≤ 65536 → Ascend (map (loaded_region elf.bytes) elf.loads ++ heap_region elf.first_break ∷ stack_region input ∷ [])
+start_ascends elf input is few =
     let low = low_break elf is in
     let h = length-zeros 16777216 in
-    let s : length (stack_bytes []) ≡ 1048576 = ap length stack_bytes-nil ∙ length-zeros 1048576 in
-    ascend_read elf (heap_region elf.first_break ∷ stack_region empty_input ∷ []) is
+    let s = length-stack_bytes input.args few in
+    ascend_read elf (heap_region elf.first_break ∷ stack_region input ∷ []) is
     (omega arith, omega (arith, low, h), omega arith, (omega (arith, low, h), omega (arith, s), omega (arith, s), tt))
+
+-- two regions behind others
+pub two_behind : (loads first both : Regions) (r s x y : Region) (m : Regions) → first ≡ loads ++ r ∷ [] → both ≡ first ++ s ∷ [] → loads ≡ m → r ≡ x → s ≡ y → both ≡ m ++ x ∷ y ∷ []
+two_behind loads first both r s x y m a b l e f =
+    let push = λ (m : Regions) (r : Region). m ++ r ∷ [] in
+    b ∙ ap₂ push (a ∙ ap₂ push l e) f ∙ append_assoc m (x ∷ []) (y ∷ [])

@@ -1,10 +1,12 @@
 //! The opening state of a file on an input.
 
-ghost use Rattle.std.specs.Prelude.{◌≡◌, ◌≤◌, ◌<◌, ◌+◌, ◌-◌, ◌++◌, length, map, IfOk};
+ghost use Rattle.std.specs.Prelude.{◌≡◌, ◌≤◌, ◌<◌, ◌+◌, ◌-◌, ◌*◌, ◌%◌, ◌^◌, [], ◌∷◌, ◌++◌, length, map, set, replicate, flat_map, IfOk, OnOk};
 ghost use Rattle.std.specs.List.{AllByRecursion};
+ghost use Rattle.byteorder.specs.Endian.{little_bytes};
 ghost use Rattle.rz_image.specs.Memory.{Ascend, zeros};
-ghost use Rattle.rz_sys.specs.Input.{IsEmptyInput, empty_input};
-ghost use Rattle.rz_machine.specs.Start.{start as start_of, first_regs, heap_region, stack_region};
+ghost use Rattle.rz_image.specs.Perm.{read_write};
+ghost use Rattle.rz_sys.specs.Input.{IsValid, strings};
+ghost use Rattle.rz_machine.specs.Start.{start as start_of, first_rsp, heap_region, stack_base, stack_bytes, string_addresses};
 ghost use Rattle.rz_elf.specs.Loaded.{IsLoad, loaded, loaded_region};
 
 use crate::machine::Machine;
@@ -14,23 +16,28 @@ use rz_flags::Flags;
 use rz_image::memory::Memory;
 use rz_image::perm::Perm;
 use rz_image::region::Region;
-use rz_num::{Bytes, OutOfMemory};
+use rz_num::{Bytes, OutOfMemory, Words};
 use rz_sys::event::Events;
-use rz_sys::input::{Input, Replies};
+use rz_sys::input::Input;
 use rz_sys::world::World;
 use std::alloc::Global;
 
-// The stack's address and size in bytes, and the size of the heap.
+// The stack's address and size in bytes, the address where it ends, and the size of the heap.
 const STACK_AT: u64 = 0x7fff_ffef_f000;
 
 const STACK_SIZE: u64 = 0x10_0000;
 
+const STACK_TOP: u64 = STACK_AT + STACK_SIZE;
+
 const HEAP_SIZE: u64 = 0x100_0000;
 
-// RSP, and where it stands with no arguments.
+// RSP (Intel SDM, volume 2, table 3-1), and what its address is a multiple of at the start.
 const RSP: usize = 4;
 
-const FIRST_RSP: u64 = 0x7fff_ffff_efd0;
+const ALIGNMENT: u64 = 16;
+
+// The bytes of a word.
+const WORD: u64 = 8;
 
 // The flags of heap and stack: PF_R and PF_W.
 const READ_WRITE: u32 = 6;
@@ -45,25 +52,26 @@ const NO_FLAGS: Flags = Flags {
     of: false,
 };
 
-/// The state in which a run of a file begins: its loads, a closed heap and a stack, RIP at the entry.
-/// The input has no arguments and no replies yet. It refuses for want of memory alone.
+/// The state in which a run of a file on a valid input begins: its loads, a closed heap, and a stack with the arguments;
+/// RIP at the entry; the input's standard input and replies to be given. It refuses for want of memory alone.
 pub fn start(alloc: Global, elf: &Elf, input: &Input) -> Result<Machine, OutOfMemory>
-    requires { IsEmptyInput input.now }
+    requires { IsValid input.now }
     ensures { IfOk result (λ machine. machine ≡ start_of (loaded elf.now) input.now) }
 {
+    let stack = first_stack(alloc, input.args.as_slice())?;
     let mut regions = load_regions(alloc, elf)?;
     regions.push(heap(alloc, elf.first_break)?)?;
-    regions.push(stack(alloc)?)?;
+    regions.push(stack_region(stack.bytes))?;
     Ok(Machine {
         cpu: Cpu {
-            regs: first_registers(),
+            regs: first_registers(stack.rsp),
             rip: elf.entry,
             flags: NO_FLAGS,
         },
         mem: Memory::new(regions),
         world: World {
             stdin: Bytes::from_slice(alloc, input.stdin.as_slice())?,
-            replies: Replies::new(alloc),
+            replies: input.replies.copy(alloc)?,
             events: Events::new(alloc),
             first_break: elf.first_break,
             brk: elf.first_break,
@@ -72,13 +80,96 @@ pub fn start(alloc: Global, elf: &Elf, input: &Input) -> Result<Machine, OutOfMe
     })
 }
 
-// With no arguments all registers are 0 but RSP.
-fn first_registers() -> [u64; 16]
-    ensures { result ≡ first_regs empty_input }
+// All registers are 0 but RSP.
+fn first_registers(rsp: u64) -> [u64; 16]
+    ensures { result ≡ set (replicate 16 0) 4 rsp }
 {
     let mut regs = [0; 16];
-    regs[RSP] = FIRST_RSP;
+    regs[RSP] = rsp;
     regs
+}
+
+// The bytes of the stack, and where RSP stands in it.
+#[derive(Drop)]
+struct Stack {
+    rsp: u64,
+    bytes: Bytes,
+}
+
+// The stack of these arguments: the strings end at its top, and the words that say where they are stand at RSP.
+fn first_stack(alloc: Global, args: &[Bytes]) -> Result<Stack, OutOfMemory>
+    requires { length (strings args.now) ≤ 65536 }
+    ensures rsp { IfOk result (λ stack. stack.rsp ≡ first_rsp args.now) }
+    ensures bytes { IfOk result (λ stack. stack.bytes ≡ stack_bytes args.now) }
+{
+    let strings = argument_strings(alloc, args)?;
+    let strings = strings.as_slice();
+    let at = STACK_TOP - strings.len() as u64;
+    let words = argument_words(alloc, args, at)?;
+    let words = words.as_slice();
+    let low = at - WORD * words.len() as u64;
+    let rsp = low - low % ALIGNMENT;
+    let mut bytes = Vec::with_capacity(alloc, STACK_SIZE as usize)?;
+    bytes.resize((rsp - STACK_AT) as usize, 0)?;
+    push_words(&mut bytes, words)?;
+    bytes.resize((at - STACK_AT) as usize, 0)?;
+    bytes.extend_from_slice(strings)?;
+    Ok(Stack {
+        rsp,
+        bytes: Bytes::from_vec(bytes),
+    })
+}
+
+// The stack with these bytes, open whole.
+fn stack_region(bytes: Bytes) -> Region
+    ensures { result ≡ record { base = stack_base; bytes = bytes; opened = 2 ^ 20; perm = read_write } }
+{
+    Region {
+        base: STACK_AT,
+        bytes,
+        opened: STACK_SIZE,
+        perm: Perm::of_flags(READ_WRITE),
+    }
+}
+
+// The argument strings, each with a zero byte.
+fn argument_strings(alloc: Global, args: &[Bytes]) -> Result<Bytes, OutOfMemory>
+    ensures { IfOk result (λ bytes. bytes ≡ strings args.now) }
+{
+    let mut bytes = Bytes::new(alloc);
+    for arg in args {
+        bytes.push_all(arg.as_slice())?;
+        bytes.push(0)?;
+    }
+    Ok(bytes)
+}
+
+// The words at RSP for argument strings from an address on: how many there are, their addresses, and the ends of three
+// lists.
+fn argument_words(alloc: Global, args: &[Bytes], strings_at: u64) -> Result<Words, OutOfMemory>
+    requires { strings_at + length (strings args.now) < 2 ^ 64 }
+    ensures { IfOk result
+        (λ words. words ≡ length args.now ∷ (string_addresses strings_at args.now ++ 0 ∷ 0 ∷ 0 ∷ 0 ∷ [])) }
+{
+    let mut words = Words::new(alloc);
+    words.push(args.len() as u64)?;
+    let mut at = strings_at;
+    for arg in args {
+        words.push(at)?;
+        at += arg.as_slice().len() as u64 + 1;
+    }
+    words.push_all(&[0; 4])?;
+    Ok(words)
+}
+
+// Appends words, the low byte of each first.
+fn push_words(bytes: &mut Vec<u8>, words: &[u64]) -> Result<(), OutOfMemory>
+    ensures { OnOk result (bytes.new.items ≡ bytes.old.items ++ flat_map (little_bytes 8) words.now) }
+{
+    for word in words {
+        bytes.extend_from_slice(&word.to_le_bytes())?;
+    }
+    Ok(())
 }
 
 /// What is loaded of a file: a region for each load, in ascending order. It refuses for want of memory alone.
@@ -134,18 +225,6 @@ fn heap(alloc: Global, at: u64) -> Result<Region, OutOfMemory>
         base: at,
         bytes: filled(alloc, &[], HEAP_SIZE)?,
         opened: 0,
-        perm: Perm::of_flags(READ_WRITE),
-    })
-}
-
-// The stack with no arguments: the count of arguments and the ends of the lists at RSP are 0 as all the rest.
-fn stack(alloc: Global) -> Result<Region, OutOfMemory>
-    ensures { IfOk result (λ region. region ≡ stack_region empty_input) }
-{
-    Ok(Region {
-        base: STACK_AT,
-        bytes: filled(alloc, &[], STACK_SIZE)?,
-        opened: STACK_SIZE,
         perm: Perm::of_flags(READ_WRITE),
     })
 }

@@ -9,7 +9,7 @@ ghost use Rattle.rz_machine.specs.Calls.Sets.{IsSameOrWith};
 ghost use Rattle.rz_machine.specs.LeftCode.{left_at, StaysInCode};
 ghost use Rattle.rz_machine.specs.Traced.{with_run, kept_in, IsRefused};
 ghost use Rattle.rz_machine.specs.Recorded.{IsUncut, StaysPlausible};
-ghost use Rattle.rz_sys.specs.Input.{IsEmptyInput};
+ghost use Rattle.rz_sys.specs.Input.{IsValid};
 ghost use Rattle.rz_machine.specs.Start.{first_state};
 ghost use Rattle.rz_elf.specs.Loaded.{loaded};
 
@@ -205,7 +205,7 @@ pub fn trace<T: InsnTable>(
     limit: u64,
     rec: &mut Record,
 ) -> Result<(), TraceRefusal>
-    requires input { IsEmptyInput input.now }
+    requires input { IsValid input.now }
     ensures added { OnOk result (kept_in rec.new
         ≡ with_run (decoded T.rows) limit (first_state elf.now input.now) (kept_in rec.old)) }
     ensures stays { OnOk result (StaysInCode (decoded T.rows) limit (first_state elf.now input.now)) }

@@ -35,7 +35,7 @@ impl Model for Replies {
 }
 
 impl Replies {
-    ghost use Rattle.std.specs.Prelude.{◌≡◌, [], ◌∷◌, ◌++◌, OnOk, OnErr};
+    ghost use Rattle.std.specs.Prelude.{◌≡◌, [], ◌∷◌, ◌++◌, OnOk, OnErr, IfOk};
     ghost use Rattle.std.specs.VecDeque.Iter.{deque_iter_rest};
     ghost use Rattle.rz_sys.specs.Answer.{next_reply, later_replies};
 
@@ -46,6 +46,15 @@ impl Replies {
         Replies {
             items: VecDeque::new(alloc),
         }
+    }
+
+    /// A copy of the replies. It refuses for want of memory alone.
+    pub fn copy(&self, alloc: Global) -> Result<Replies, OutOfMemory>
+        ensures { IfOk result (λ copy. copy ≡ self.now) }
+    {
+        Ok(Replies {
+            items: self.items.iter().copied().collect(alloc)?,
+        })
     }
 
     /// Appends a reply. It refuses for want of memory alone, and then the list is unchanged.
@@ -157,6 +166,7 @@ mod tests {
         let mut replies = Replies::new(rt.alloc());
         replies.push(Reply::AtMost(2))?;
         replies.push(Reply::Error(5))?;
+        let mut replies = replies.copy(rt.alloc())?;
         assert_eq!(rt; replies.first(), Reply::AtMost(2));
         replies.advance();
         assert_eq!(rt; replies.first(), Reply::Error(5));

@@ -4,7 +4,7 @@ use Rattle.rz_elf.specs.Elf.{Image}
 use Rattle.rz_elf.specs.Loaded.{ElfFile, loaded_region}
 use Rattle.rz_elf.specs.Laws.Loads.{loaded_image}
 use Rattle.rz_core.specs.Texts.{check_text}
-use Rattle.rz_core.specs.Causes.{checked_text}
+use Rattle.rz_core.specs.Checked.{checked_text}
 use Rattle.rz_core.proofs.check.text_of.Goals as goal
 
 on_ok : {A E : Type 0} (P Q : A → Type 0) (r : Result A E) → ((a : A) → P a → Q a) → IfOk r P → IfOk r Q

@@ -1,4 +1,4 @@
-use Rattle.std.proofs.Common.{ap, subst, ◌∙◌}
+use Rattle.std.proofs.Common.{ap, subst, ◌∙◌, inl, refl}
 use Rattle.rz_elf.specs.Loaded.{ElfFile, IsRead, loaded}
 use Rattle.rz_machine.specs.Traced.{kept_in, IsRefused}
 use Rattle.rz_machine.specs.declared.machine.Machine.{Machine}
@@ -35,4 +35,4 @@ returns-in-Err-LeftCode-clause-err c =
     let is : IsRead c.args.elf.now = subst IsRead c.elf.view_is c.elf.invariant in
     let s : Machine = start (loaded c.args.elf.now) c.args.input.now in
     let refused = subst (IsRefused decode_early c.args.limit s (kept_in c.new-kept.result) (kept_in c.trace.new.rec)) c.in-Err-LeftCode.field-0-is c.in-Err-LeftCode.ensures.refused in
-    subst (λ (t : Machine). LeavesCode decode_early c.args.limit t c.in-Err-LeftCode.address) (traced_is c.args.elf.now is c.args.input.now) refused.0
+    inl (refl, subst (λ (t : Machine). LeavesCode decode_early c.args.limit t c.in-Err-LeftCode.address) (traced_is c.args.elf.now is c.args.input.now) refused.0)

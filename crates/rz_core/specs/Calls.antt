@@ -1,0 +1,5 @@
+pub mod Held
+pub mod Programs
+pub mod Making
+pub mod Carried
+pub mod Putting

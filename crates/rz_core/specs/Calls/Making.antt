@@ -1,0 +1,48 @@
+-- What is made of a file and an input, and when it is refused.
+use Rattle.std.specs.Prelude.{◌≡◌, ℕ, List, [], ◌∷◌, length}
+use Rattle.rz_outside.specs.StoreCalls.{StoreCalls, Held}
+use Rattle.rz_elf.specs.Elf.{Image}
+use Rattle.rz_sys.specs.declared.input.Input.{Input}
+use Rattle.rz_machine.specs.Kept.{Kept}
+use Rattle.rz_machine.specs.Added.{added}
+use Rattle.rz_core.specs.declared.making.Made.{Made}
+use Rattle.rz_core.specs.declared.status.Status.{Status}
+use Rattle.rz_core.specs.declared.status.Status.TheVariants as status
+use Rattle.rz_core.specs.Kinds.{Kind, Done, TextLost, FileLost, NoMemory, Refused, kind_of}
+use Rattle.rz_core.specs.Decoding.{decode_early}
+use Rattle.rz_core.specs.Texts.{report_text}
+use Rattle.rz_core.specs.Reading.{Course, HoldAll}
+use Rattle.rz_core.specs.Command.{Command}
+use Rattle.rz_core.specs.Debloated.{DebloatEnds}
+use Rattle.rz_core.specs.Causes.{EndsWith}
+
+-- a refusal that ends a command, or want of memory
+abbrev pub EndRefusalOf : Kind → (Status → Type 0) → Status → Type 0
+EndRefusalOf Done End answer = ⊥
+EndRefusalOf TextLost End answer = ⊥
+EndRefusalOf FileLost End answer = ⊥
+EndRefusalOf NoMemory End answer = Unit {0}
+EndRefusalOf Refused End answer = End answer
+
+abbrev pub EndRefusal : (Status → Type 0) → Status → Type 0
+EndRefusal End answer = EndRefusalOf (kind_of answer) End answer
+
+-- why nothing was made: the run left the code, or an operand is out of reach, or there is no room for the parts, or no memory
+abbrev pub MakeRefusal : ℕ → List ℕ → Input → Status → Type 0
+MakeRefusal limit x input answer = EndRefusal (DebloatEnds limit x (input ∷ [])) answer
+
+-- the report of a kept set without sites
+abbrev pub plain_report : Image → Kept → List ℕ
+plain_report x kept = report_text (added decode_early x kept).scratch (length kept.edges) (length kept.nodes) 0 0
+
+-- what is made of the files that a command reads
+pub record IsMade (c : Command) (s : StoreCalls) (m : Made) : Type 0 where
+  pub contents : List (List ℕ)
+  pub read : HoldAll (Held s) c.reads contents
+  pub ends : c.Ends contents status.Ok
+  pub new : c.New contents m.bytes
+  pub report_is : m.report ≡ c.text contents
+
+-- a command is refused before its write
+abbrev pub IsUnmade : Command → StoreCalls → Status → Type 0
+IsUnmade c s answer = Course c.reads s (EndRefusal (EndsWith c s)) answer

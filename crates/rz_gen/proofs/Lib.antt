@@ -1,0 +1,4 @@
+pub mod Pieces
+pub mod Lengths
+pub mod Accepted
+pub mod Rows

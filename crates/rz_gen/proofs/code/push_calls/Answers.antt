@@ -1,0 +1,9 @@
+use Rattle.rz_gen.specs.Code.{call}
+use Rattle.rz_gen.proofs.Pieces.{pieces_none, pieces_more}
+use Rattle.rz_gen.proofs.code.push_calls.Goals as goal
+
+pub loop-j-init : goal.loop-j-init
+loop-j-init c = pieces_none (call c.args.n) c.args.out.now.items
+
+pub loop-j-preserved : goal.loop-j-preserved
+loop-j-preserved c = pieces_more (call c.args.n) c.loop-j.j _ _ _ c.loop-j.invariant c.in_ok-push_call.ensures

@@ -1,0 +1,4 @@
+pub mod Sequence
+pub mod Places
+pub mod Code
+pub mod Generated
