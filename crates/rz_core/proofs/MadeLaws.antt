@@ -64,6 +64,7 @@ module _ (elf : ElfFile) (is : IsRead elf) where
 
 -- the table has no calls, no returns and no jumps by an operand
 pub no_transfers : (x : Image) (kept : Kept) → HasNoTransfers decode_early x kept
+unfolding early
 no_transfers = keeps_no_transfers early refl
 
 -- the report names no sites

@@ -1,14 +1,14 @@
-use Rattle.std.proofs.Common.{ℕ, ◌≡◌, ◌+◌, ◌≤◌, ◌<◌, List, [], ◌∷◌, Bool, true, ◌&&◌, Some, zero, suc, subst, ap, sym, ◌∙◌, arith, refl}
-use Rattle.std.specs.Prelude.{nat_le, nat_lt, slice_get}
+use Rattle.std.proofs.Common.{ℕ, ◌≡◌, ◌+◌, List, [], ◌∷◌, true, Some, zero, suc, subst, ap, sym, ◌∙◌, arith, refl}
+use Rattle.std.specs.Prelude.{slice_get}
 use Rattle.std.proofs.lemmas.Bool.Decides.{nat_tests}
 use Rattle.rz_isa.specs.declared.rows.OpMap.{OpMap}
 use Rattle.rz_isa.specs.declared.rows.OpMap.TheVariants as maps
 use Rattle.rz_isa.specs.declared.rows.Row.{Row}
-use Rattle.rz_isa.specs.Index.{has_opcode, is_listed, ListsOpcode}
+use Rattle.rz_isa.specs.Index.{is_listed, ListsOpcode}
 use Rattle.rz_isa.specs.Spelling.{opcode_fits}
 use Rattle.rz_isa.specs.Table.{each_from, same_map}
 use Rattle.rz_isa.proofs.Exclusion.{each_from_at}
-use Rattle.rz_isa.proofs.Tests.{and_parts, some_same}
+use Rattle.rz_isa.proofs.Tests.{and_parts}
 use Rattle.rz_table.specs.Index.{cell, opcode_place, covers}
 
 -- ---- an index that covers the rows lists them

@@ -9,6 +9,7 @@ use Rattle.rz_table.specs.EarlyRows.{early}
 
 -- the rows of each class, computed
 pub class_listed : (class : Class) → cell EARLY_CLASS_STARTS EARLY_CLASS_ROWS (class_place class) ≡ numbers_of class 0 early
+unfolding early
 class_listed classes.Add = refl
 class_listed classes.Or = refl
 class_listed classes.Adc = refl

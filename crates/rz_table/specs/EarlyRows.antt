@@ -3,5 +3,5 @@ use Rattle.rz_isa.specs.declared.rows.Row.{Row}
 use Rattle.rz_table.specs.declared.profile_rows.TheConstants.{PROFILE}
 
 -- The rows of profile 1 before its calls, jumps through operands and returns, and those behind them.
-abbrev pub early : List Row
+unfoldable pub early : List Row
 early = take 162 PROFILE ++ drop 167 PROFILE

@@ -1,2 +1,3 @@
 pub mod ProfileEmits
 pub mod EarlyEmits
+pub mod EarlyLaws

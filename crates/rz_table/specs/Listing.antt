@@ -1,4 +1,4 @@
-use Rattle.std.specs.Prelude.{ℕ, ◌+◌, ◌-◌, ◌*◌, List, [], ◌∷◌, ◌++◌, map, drop, Option, Some, None, Bool, true, false}
+use Rattle.std.specs.Prelude.{ℕ, ◌+◌, ◌*◌, List, [], ◌∷◌, ◌++◌, map, drop, Option, Some, None, true, false}
 use Rattle.rz_flags.specs.declared.ArithOp.{ArithOp}
 use Rattle.rz_flags.specs.declared.ArithOp.TheVariants as ariths
 use Rattle.rz_flags.specs.declared.UnaryOp.TheVariants as unaries

@@ -273,6 +273,7 @@ push_of_four_bytes = refl
 
 -- profile 1 has transfers that are looked up, the table without them none
 profile_has_lookup : (has_lookup PROFILE ≡ true) × (has_lookup early ≡ false)
+unfolding early
 profile_has_lookup = (refl, refl)
 
 shift_right_once : canonical PROFILE (insns.Shift shifts.Shr W32 (places.Reg (regs.R 1)) (counts.Imm 1)) 0x1000 forms.Near ≡ Some (0xd1 ∷ 0xe9 ∷ [])

@@ -1,8 +1,9 @@
-ghost use Rattle.std.specs.Prelude.{◌≡◌, length, refl};
+ghost use Rattle.std.specs.Prelude.{◌≡◌, length};
 ghost use Rattle.rz_isa.specs.Table.{OneRow, Lengths, OneCanonicalRow, CanonicalSpells};
 ghost use Rattle.rz_table.specs.EarlyRows.{early};
 ghost use Rattle.rz_table.specs.Listing.{early_rows};
 ghost use Rattle.rz_table.specs.Laws.EarlyEmits.{emits, emits_lookup};
+ghost use Rattle.rz_table.specs.Laws.EarlyLaws.{plain, exclude, regular, suited};
 
 use crate::early_index::{
     EARLY_CLASS_ROWS, EARLY_CLASS_STARTS, EARLY_OPCODE_ROWS, EARLY_OPCODE_STARTS,
@@ -59,13 +60,13 @@ impl InsnTable for Early {
         cell(&EARLY_CLASS_STARTS, &EARLY_CLASS_ROWS, class_place(class))
     }
 
-    ghost plain = { refl };
+    ghost plain = { plain };
 
-    ghost exclude = { refl };
+    ghost exclude = { exclude };
 
-    ghost regular = { refl };
+    ghost regular = { regular };
 
-    ghost suited = { refl };
+    ghost suited = { suited };
 
     ghost emits = { emits };
 

@@ -12,6 +12,7 @@ use Rattle.rz_table.specs.EarlyRows.{early}
 -- Profile 1 without its transfers emits what it must; no transfer of it is looked up.
 
 pub emits : Emits early
+unfolding early
 emits = record {
   load = λ r at p. emits_load early 81 79 r at p (λ m. refl) (λ a. refl) (λ q. refl);
   store = λ r at m. emits_store early 79 r at m refl;
@@ -35,4 +36,5 @@ emits = record {
 }
 
 pub emits_lookup : IsTrue (has_lookup early) → EmitsLookup early
+unfolding early
 emits_lookup h = absurd (never (has_lookup early) h refl)
