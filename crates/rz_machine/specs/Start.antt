@@ -7,6 +7,7 @@ use Rattle.rz_machine.specs.declared.machine.Machine.{Machine}
 use Rattle.rz_image.specs.Perm.{read_write}
 use Rattle.rz_image.specs.declared.region.Region.{Region}
 use Rattle.rz_sys.specs.declared.input.Input.{Input}
+use Rattle.rz_sys.specs.declared.world.World.{World}
 use Rattle.rz_sys.specs.Input.{strings}
 use Rattle.rz_image.specs.Memory.{zeros}
 use Rattle.rz_elf.specs.Elf.{Image}
@@ -52,12 +53,24 @@ no_flags = record { cf = false; pf = false; af = false; zf = false; sf = false; 
 unfoldable pub first_regs : Input → List ℕ
 first_regs input = set (replicate 16 0) 4 (first_rsp input.args)
 
+-- nothing is read yet; the heap's region follows the loads
+abbrev pub first_world : Image → Input → World
+first_world image input =
+    record {
+      stdin = input.stdin;
+      replies = input.replies;
+      events = [];
+      first_break = image.first_break;
+      brk = image.first_break;
+      heap = length image.loads;
+    }
+
 abbrev pub start : Image → Input → Machine
 start image input =
     record {
       cpu = record { regs = first_regs input; rip = image.entry; flags = no_flags };
       mem = image.loads ++ heap_region image.first_break ∷ stack_region input ∷ [];
-      world = record { stdin = input.stdin; replies = input.replies; events = []; first_break = image.first_break; brk = image.first_break };
+      world = first_world image input;
       end = None;
     }
 

@@ -17,7 +17,7 @@ use rz_image::region::Region;
 use rz_num::{Bytes, OutOfMemory};
 use rz_sys::event::Events;
 use rz_sys::input::{Input, Replies};
-use rz_sys::world::World;
+use rz_sys::world::{Unread, World};
 use std::alloc::Global;
 
 // The stack's address and size in bytes, and the size of the heap.
@@ -51,8 +51,10 @@ pub fn start(alloc: Global, elf: &Elf, input: &Input) -> Result<Machine, OutOfMe
     requires { IsEmptyInput input.now }
     ensures { IfOk result (λ machine. machine ≡ start_of (loaded elf.now) input.now) }
 {
+    let first_break = elf.first_break;
     let mut regions = load_regions(alloc, elf)?;
-    regions.push(heap(alloc, elf.first_break)?)?;
+    let heap_number = regions.len() as u32;
+    regions.push(heap(alloc, first_break)?)?;
     regions.push(stack(alloc)?)?;
     Ok(Machine {
         cpu: Cpu {
@@ -62,11 +64,12 @@ pub fn start(alloc: Global, elf: &Elf, input: &Input) -> Result<Machine, OutOfMe
         },
         mem: Memory::new(regions),
         world: World {
-            stdin: Bytes::from_slice(alloc, input.stdin.as_slice())?,
+            stdin: Unread::from_bytes(Bytes::from_slice(alloc, input.stdin.as_slice())?),
             replies: Replies::new(alloc),
             events: Events::new(alloc),
-            first_break: elf.first_break,
-            brk: elf.first_break,
+            first_break,
+            brk: first_break,
+            heap: heap_number,
         },
         end: None,
     })

@@ -4,7 +4,7 @@ use Rattle.rz_image.specs.Memory.{Regions, refused, is_readable}
 use Rattle.rz_sys.specs.declared.input.Reply.{Reply}
 use Rattle.rz_sys.specs.declared.input.Reply.TheVariants.{Full, AtMost, Error}
 use Rattle.rz_sys.specs.declared.world.World.{World}
-use Rattle.rz_sys.specs.Answer.{Called, Call, Write, NoFile, Exit, Other, next_reply, write_reply, write_allowed, whole, no_wrap, cut_count, answer_as, call_in, rdi, rsi, rdx, answer}
+use Rattle.rz_sys.specs.Answer.{Call, Write, NoFile, Exit, Other, next_reply, write_reply, write_allowed, whole, no_wrap, cut_count, answer_as, call_in, rdi, rsi, rdx, answer}
 
 write_reply-mem : (r : Reply) (at n : ℕ) (m : Regions) (w : World) → (write_reply r at n m w).mem ≡ m
 write_reply-mem Full at n m w = refl

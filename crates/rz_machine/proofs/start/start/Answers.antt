@@ -1,9 +1,16 @@
-use Rattle.std.proofs.Common.{◌≡◌, append_assoc, ap, subst}
+use Rattle.std.proofs.Common.{◌≡◌, length, append_assoc, ap, subst, arith}
 use Rattle.rz_elf.specs.Loaded.{ElfFile, IsRead}
-use Rattle.rz_machine.proofs.StartRegions.{start_ascends}
+use Rattle.rz_machine.proofs.StartRegions.{start_ascends, few_loads}
 use Rattle.rz_machine.proofs.start.start.Goals as goal
 
 pub new-requires : goal.new-requires
 new-requires c =
     let top : c.elf.inside.first_break ≡ c.args.elf.now.first_break = ap (λ (e : ElfFile). e.first_break) c.elf.view_is in
     rw (c.in_ok-push-2.ensures.items, c.in_ok-push.ensures.items, c.in_ok-regions.ensures.regions, c.in_ok-heap.ensures, c.in_ok-stack.ensures, top, append_assoc) (start_ascends c.args.elf.now (subst IsRead c.elf.view_is c.elf.invariant))
+
+pub overflow_cast-heap_number : goal.overflow_cast-heap_number
+overflow_cast-heap_number c =
+    let is = subst IsRead c.elf.view_is c.elf.invariant in
+    let few = few_loads c.args.elf.now is in
+    let e = ap length c.in_ok-regions.ensures.regions in
+    omega (arith, few, e)
