@@ -16,3 +16,4 @@ pub mod TraceTurns
 pub mod Calls
 pub mod RunTurns
 pub mod StartRegions
+pub mod StartHeap

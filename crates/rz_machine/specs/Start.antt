@@ -1,6 +1,7 @@
 -- The opening state of an accepted file on a valid input
 -- (after the System V ABI for x86-64, section 3.4.1, "Initial Stack and Register State", without environment or auxiliary entries).
-use Rattle.std.specs.Prelude.{ℕ, ◌+◌, ◌-◌, ◌*◌, ◌%◌, ◌^◌, false, List, [], ◌∷◌, ◌++◌, length, set, replicate, flat_map, None}
+use Rattle.std.specs.Prelude.{◌≡◌, ℕ, ◌+◌, ◌-◌, ◌*◌, ◌%◌, ◌^◌, ◌≤◌, false, List, [], ◌∷◌, ◌++◌, length, set, replicate, flat_map, None}
+use Rattle.std.specs.List.{AllByRecursion}
 use Rattle.byteorder.specs.Endian.{little_bytes}
 use Rattle.rz_flags.specs.declared.Flags.{Flags}
 use Rattle.rz_machine.specs.declared.machine.Machine.{Machine}
@@ -73,6 +74,12 @@ start image input =
       world = first_world image input;
       end = None;
     }
+
+-- what is loaded leaves room for a heap: the first break is a low page, and the loads end there or before
+pub record HasHeapRoom (image : Image) : Type 0 where
+  pub page : image.first_break % 4096 ≡ 0
+  pub low : image.first_break ≤ 0x70000000
+  pub loads : AllByRecursion (λ r. r.base + length r.bytes ≤ image.first_break) image.loads
 
 -- the opening state of what was read of a file
 abbrev pub first_state : ElfFile → Input → Machine
