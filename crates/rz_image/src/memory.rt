@@ -7,7 +7,7 @@ ghost use Rattle.rz_image.specs.Word.{put_word, refused_word, word_at};
 use crate::access::Access;
 use crate::region::{Region, Touch};
 use crate::runs::{all_allow, copy, fetch};
-use crate::words::{load, load_run, put_run, store};
+use crate::words::{load, load_run, put_run, store, store_bytes};
 use rz_num::{Bytes, OutOfMemory, Width};
 use std::alloc::Global;
 use std::marker::Model;
@@ -79,6 +79,13 @@ impl Memory {
         ensures unchanged { result ≡ false → self.new ≡ self.old }
     {
         put_run(self.regions.as_mut_slice(), at, bytes)
+    }
+
+    /// Writes each of the bytes that may be written, from an address on; addresses wrap at 2^64.
+    pub fn store_bytes(&mut self, at: u64, bytes: &[u8])
+        ensures { self.new ≡ put_bytes self.old at bytes.now }
+    {
+        store_bytes(self.regions.as_mut_slice(), at, bytes);
     }
 
     /// The executable bytes at an address, up to the first that isn't, and at most 15: how many there are.

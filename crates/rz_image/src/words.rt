@@ -137,6 +137,17 @@ pub fn put_run(regions: &mut [Region], at: u64, bytes: &[u8]) -> bool
     true
 }
 
+/// Writes each byte that may be written, all at once where one region opens them.
+pub fn store_bytes(regions: &mut [Region], at: u64, bytes: &[u8])
+    requires { Ascend regions.old }
+    ensures done { regions.new ≡ put_bytes regions.old at bytes.now }
+    ensures ascend { Ascend regions.new }
+{
+    if bytes.is_empty() || !put_run(regions, at, bytes) {
+        put_each(regions, at, bytes);
+    }
+}
+
 // Writes each byte that may be written.
 fn put_each(regions: &mut [Region], at: u64, bytes: &[u8])
     requires { Ascend regions.old }

@@ -117,7 +117,7 @@ module _ (dec : Decoder) (edges : Edges) (lay : Layout) (place bound : ℕ → �
       complete_alike lay.added (plain_effect x s.cpu.regs s.cpu.flags) s.cpu.regs s.cpu.flags s.mem t.mem clear st.same.mem in
       let alike : CompletionAlike lay.added c d = subst (CompletionAlike lay.added c) (ap₂ K st.same.regs st.same.flags) one in
       let C : Machine → Type 0 = λ u. HasCode wm u.mem in
-      let code : HasCode wm (after_effect d p t).mem = subst C e (step_code wm dec t st.new_code) in
+      let code : HasCode wm (after_effect d p t).mem = subst C e (step_code wm dec t st.new_heap st.new_code) in
       let Q : Machine → Type 0 = λ u. Follows dec edges lay place bound a u t in
       subst Q (sym f) (effect_follows a n p s t c d alike st e code ahead)
 
@@ -234,7 +234,7 @@ module _ (dec : Decoder) (edges : Edges) (lay : Layout) (place bound : ℕ → �
       let t1 = after_exit None d p t in
       let e1 : step dec t ≡ t1 = e ∙ ap (λ o. after_exit o d p t) (sym alike.exit ∙ exit) in
       let C : Machine → Type 0 = λ u. HasCode wm u.mem in
-      let code1 : HasCode wm t1.mem = subst C e1 (step_code wm dec t st.new_code) in
+      let code1 : HasCode wm t1.mem = subst C e1 (step_code wm dec t st.new_heap st.new_code) in
       let t2 : Machine = record t1 { cpu = record t1.cpu { regs = set t1.cpu.regs 1 n; rip = q } } in
       let e2 : step dec t1 ≡ t2 = step_is dec wm p (mov_number 1 n) q mov t1 st.new_runs refl code1 ∙ mov_is 1 n q t1 low in
       let code2 : HasCode wm t2.mem = code1 in
@@ -257,7 +257,7 @@ module _ (dec : Decoder) (edges : Edges) (lay : Layout) (place bound : ℕ → �
       let d = answer t.cpu.regs t.mem t.world in
       let f : step dec s ≡ after_call c n s = step_is dec xm a x n old s st.old_runs rip st.old_code ∙ ap (λ w. perform_by w x n s) is in
       let e : step dec t ≡ after_call d p t = step_is dec wm (place a) x p new t st.new_runs there st.new_code ∙ ap (λ w. perform_by w x p t) is in
-      let alike : CalledAlike lay.added c d = answer_alike lay.added s.cpu.regs t.cpu.regs s.mem t.mem s.world t.world clear st.same.regs st.same.world st.same.mem in
+      let alike : CalledAlike lay.added c d = answer_alike lay.added s.cpu.regs t.cpu.regs s.mem t.mem s.world t.world clear st.old_heap st.new_heap st.same.regs st.same.world st.same.mem in
       let Q : Machine → Type 0 = λ u. Follows dec edges lay place bound a u t in
       subst Q (sym f) (call_follows a n p s t c d c.exit refl alike st e q low mov ahead)
 

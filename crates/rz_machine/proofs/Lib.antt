@@ -18,3 +18,4 @@ pub mod RunTurns
 pub mod StartRegions
 pub mod StackLaws
 mod StartRows
+pub mod StartHeap

@@ -1,5 +1,5 @@
 -- Whatever the placement, each run of the original is kept.
-use Rattle.std.proofs.Common.{◌≡◌, ℕ, ◌+◌, ◌^◌, ◌<◌, true, replicate, None, refl, sym, ap, ◌∙◌, arith}
+use Rattle.std.proofs.Common.{◌≡◌, ℕ, ◌+◌, ◌^◌, ◌<◌, ◌≤◌, true, replicate, None, refl, sym, ap, ◌∙◌, subst, arith}
 use Rattle.std.specs.List.{AllByRecursion}
 use Rattle.rz_isa.specs.declared.instruction.Insn.TheVariants as insn
 use Rattle.rz_machine.specs.declared.machine.Machine.{Machine}
@@ -24,6 +24,7 @@ use Rattle.rz_exec.specs.Laws.Registers.{set_regs}
 use Rattle.rz_machine.proofs.Runs.{Follows, Stand, keeps, paced}
 use Rattle.rz_machine.proofs.Comes.{step_is, halt_is}
 use Rattle.rz_machine.proofs.Fragment.{fragment_follows}
+use Rattle.rz_machine.proofs.StartHeap.{start_heap}
 use Rattle.rz_machine.proofs.StartCode.{start_code}
 
 -- the registers at the start
@@ -78,6 +79,9 @@ module _ (dec : Decoder) (x w : Image) (kept : Kept) (lay : Layout) (place : ℕ
         regs = first_regs-are input;
         old_code = start_code x input x_fixed;
         new_code = record { same = record { at = λ b. refl }; fixed = (start_code w input w_fixed).fixed };
+        old_heap = start_heap x input are.old_heap;
+        new_heap = start_heap w input are.new_heap;
+        below = subst (λ k. lay.added.high ≤ k) (sym are.first_break) are.below;
         added = record { perms = λ b i. record { read = refl; write = refl; execute = refl }; bytes = λ b i w. refl };
       }
     where

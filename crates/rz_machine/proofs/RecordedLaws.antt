@@ -19,6 +19,7 @@ use Rattle.rz_machine.specs.Nodes.{code_in, StandsIn}
 use Rattle.rz_machine.specs.Recorded.{IsUncut, StaysPlausible}
 use Rattle.rz_machine.proofs.SetLaws.{has_node-with_nodes, has_edge-with_edges}
 use Rattle.rz_machine.proofs.CodeLaws.{HasCode}
+use Rattle.rz_sys.specs.Heap.{HasHeap}
 use Rattle.rz_machine.proofs.StartCode.{start_code}
 use Rattle.rz_machine.proofs.TraceLaws.{IsDirect, Begins, begins, begins_or, step_ended, after_ended, begun_nodes, begun_direct, neighbours_in}
 
@@ -30,14 +31,14 @@ either true y e f g = f refl
 either false y e f g = g e
 
 -- a run added to what stands in the code stands there
-pub with_run_stands : (dec : Decoder) (m : Regions) (n : ℕ) (s : Machine) (kept : Kept) → HasCode m s.mem → StandsIn dec (code_in m) kept → StandsIn dec (code_in m) (with_run dec n s kept)
+pub with_run_stands : (dec : Decoder) (m : Regions) (n : ℕ) (s : Machine) (kept : Kept) → HasHeap s.mem s.world → HasCode m s.mem → StandsIn dec (code_in m) kept → StandsIn dec (code_in m) (with_run dec n s kept)
 unfolding with_run IsDirect
-with_run_stands dec m n s kept code h =
+with_run_stands dec m n s kept heap code h =
     record {
-      nodes = λ a e. node a e (h.nodes a) (begun_nodes dec m n s a code);
+      nodes = λ a e. node a e (h.nodes a) (begun_nodes dec m n s a heap code);
       sources = λ a b e. edge a b e (λ f. old a (h.sources a b f)) (λ f. new a (neighbours_in list a b f).0);
       ends = λ a b e. edge a b e (λ f. old b (h.ends a b f)) (λ f. new b (neighbours_in list a b f).1);
-      direct = λ a b e. edge a b e (h.direct a b) (begun_direct dec m n s a b code);
+      direct = λ a b e. edge a b e (h.direct a b) (begun_direct dec m n s a b heap code);
     }
   where
     list : List ℕ
@@ -178,21 +179,22 @@ recorded_no_cut dec n s stays =
     subst (λ (kept : Kept). IsUncut dec kept.edges s n) (sym (recorded_run dec n s)) (with_run_uncut dec n s _ stays)
 
 -- a run added to what stands in the code makes it plausible
-with_run_plausible : (dec : Decoder) (x : Image) (input : Input) (n : ℕ) (kept : Kept) → StaysInCode dec n (start x input) → StaysPlausible dec n x kept (with_run dec n (start x input) kept)
+with_run_plausible : (dec : Decoder) (x : Image) (input : Input) (n : ℕ) (kept : Kept) → HasHeap (start x input).mem (start x input).world → StaysInCode dec n (start x input) → StaysPlausible dec n x kept (with_run dec n (start x input) kept)
 unfolding with_run
-with_run_plausible dec x input n kept stays some fixed old =
+with_run_plausible dec x input n kept heap stays some fixed old =
     let s = start x input in
     let first = begun_first dec n s some refl stays in
     record {
-      stands = with_run_stands dec x.loads n s kept (start_code x input fixed) old;
+      stands = with_run_stands dec x.loads n s kept heap (start_code x input fixed) old;
       entry_kept = has_node-with_nodes kept.nodes (begun dec n s) x.entry ∙ or_right (has_node kept.nodes x.entry) (has_node (begun dec n s) x.entry) first;
     }
 
 -- the same of a state and a record that a trace began and ended with
-pub traced_plausible : (dec : Decoder) (x : Image) (input : Input) (n : ℕ) (s : Machine) (old new : Kept) → s ≡ start x input → new ≡ with_run dec n s old → StaysInCode dec n s → StaysPlausible dec n x old new
-traced_plausible dec x input n s old new began added stays =
+pub traced_plausible : (dec : Decoder) (x : Image) (input : Input) (n : ℕ) (s : Machine) (old new : Kept) → HasHeap s.mem s.world → s ≡ start x input → new ≡ with_run dec n s old → StaysInCode dec n s → StaysPlausible dec n x old new
+traced_plausible dec x input n s old new heap began added stays =
     let P : Machine → Type 0 = StaysInCode dec n in
-    subst (StaysPlausible dec n x old) (sym (added ∙ ap (λ t. with_run dec n t old) began)) (with_run_plausible dec x input n old (subst P began stays))
+    let H : Machine → Type 0 = λ t. HasHeap t.mem t.world in
+    subst (StaysPlausible dec n x old) (sym (added ∙ ap (λ t. with_run dec n t old) began)) (with_run_plausible dec x input n old (subst H began heap) (subst P began stays))
 
 pub traced_uncut : (dec : Decoder) (n : ℕ) (s t : Machine) (old new : Kept) → s ≡ t → new ≡ with_run dec n s old → StaysInCode dec n s → IsUncut dec new.edges t n
 traced_uncut dec n s t old new began added stays =

@@ -12,6 +12,7 @@ use Rattle.rz_exec.specs.Registers.{IsWord, AreRegs, put_reg}
 use Rattle.rz_exec.specs.Form.{Exception, Effect, Completion, carry}
 use Rattle.rz_exec.specs.Stack.{top_of, below_top}
 use Rattle.rz_exec.specs.Laws.Registers.{GivesRegs, set_regs, put_reg_regs, carry_regs, complete_regs}
+use Rattle.rz_sys.specs.Heap.{HasHeap}
 use Rattle.rz_sys.specs.Answer.{Called, answer}
 use Rattle.rz_sys.specs.Laws.Answers.{answer_word}
 use Rattle.rz_machine.specs.declared.machine.End.{End}
@@ -33,9 +34,9 @@ flags_fit f =
     bit false n = omega arith
 
 -- one step
-pub step_regs : (dec : Decoder) (s : Machine) → AreRegs s.cpu.regs → AreRegs (step dec s).cpu.regs
+pub step_regs : (dec : Decoder) (s : Machine) → HasHeap s.mem s.world → AreRegs s.cpu.regs → AreRegs (step dec s).cpu.regs
 unfolding step
-step_regs dec s h = run s.end
+step_regs dec s heap h = run s.end
   where
     call : (o : Option ℕ) (c : Called) (next : ℕ) → IsWord c.answer → IsWord next → AreRegs (after_exit o c next s).cpu.regs
     call (Some status) c next a n = h
@@ -60,7 +61,7 @@ step_regs dec s h = run s.end
     does x (Transfers (transfer.CallInd src)) next n = leads _ _ (λ a b. moved_top (below_top s.cpu.regs))
     does x (Transfers (transfer.JmpInd src)) next n = leads _ _ (λ a b. h)
     does x (Transfers (transfer.Ret pop)) next n = leads _ _ (λ a b. moved_top (top_of s.cpu.regs + 8 + pop))
-    does x Calls next n = call _ (answer s.cpu.regs s.mem s.world) next (answer_word s.cpu.regs s.mem s.world) n
+    does x Calls next n = call _ (answer s.cpu.regs s.mem s.world) next (answer_word s.cpu.regs s.mem s.world heap) n
     does x (Halts how) next n = h
 
     acts : (d : Decoded) → AreRegs (act d s).cpu.regs

@@ -12,6 +12,8 @@ use Rattle.rz_machine.specs.Keeps.{Same, Leaves, IsCut, NoCut, AlikeEnds, StopsA
 use Rattle.rz_machine.specs.Kept.{Edges, has_edge}
 use Rattle.rz_machine.specs.Pace.{IsMoment, Paced}
 use Rattle.rz_machine.specs.Placement.{dest}
+use Rattle.rz_sys.specs.Heap.{HasHeap}
+use Rattle.rz_machine.proofs.StepLaws.{step_heap, after_heap, after_break}
 use Rattle.rz_machine.proofs.CodeLaws.{HasCode, step_code, after_code, after_range}
 use Rattle.rz_exec.specs.Registers.{AreRegs}
 use Rattle.rz_machine.proofs.RegLaws.{step_regs}
@@ -33,6 +35,9 @@ pub record Stand (lay : Layout) (place : ℕ → ℕ) (xm wm : Regions) (s t : M
   pub old_code : HasCode xm s.mem
   pub new_code : HasCode wm t.mem
   pub added : RangeStands lay.added wm t.mem
+  pub old_heap : HasHeap s.mem s.world
+  pub new_heap : HasHeap t.mem t.world
+  pub below : lay.added.high ≤ t.world.first_break
 
 -- a run that has ended stays
 pub stays : (dec : Decoder) (s : Machine) (why : End) → s.end ≡ Some why → step dec s ≡ s
@@ -107,10 +112,13 @@ module _ (dec : Decoder) (edges : Edges) (lay : Layout) (place bound : ℕ → �
             new_runs = f.3;
             there = there;
             same = f.5;
-            regs = step_regs dec s a.stand.regs;
-            old_code = step_code xm dec s a.stand.old_code;
-            new_code = after_code wm dec f.0 t a.stand.new_code;
-            added = after_range lay.added wm dec f.0 t a.stand.added;
+            regs = step_regs dec s a.stand.old_heap a.stand.regs;
+            old_code = step_code xm dec s a.stand.old_heap a.stand.old_code;
+            new_code = after_code wm dec f.0 t a.stand.new_heap a.stand.new_code;
+            added = after_range lay.added wm dec f.0 t a.stand.new_heap a.stand.below a.stand.added;
+            old_heap = step_heap dec s a.stand.old_heap;
+            new_heap = after_heap dec f.0 t a.stand.new_heap;
+            below = subst (λ k. lay.added.high ≤ k) (sym (after_break t.world.first_break dec f.0 t refl)) a.stand.below;
           } in
           let old : after dec (suc n) x ≡ step dec s = after-suc dec n x in
           let new : after dec (a.steps + f.0) w ≡ after dec f.0 t = after-+ dec a.steps f.0 w in
@@ -211,4 +219,4 @@ module _ (dec : Decoder) (edges : Edges) (lay : Layout) (place bound : ℕ → �
       cut j clear h =
           let p = paced.cut j clear h in
           let a = arrives j (λ i lt. clear i (omega arith)) (λ i lt c. h.first i lt c.leaves) (ran dec (after dec j x) h.leaves.runs) in
-          (p.0, moment_least dec lay.added bound x w (suc j) p.0 p.1, p.2, p.1.4, p.3, stub_stops (after dec p.0 w) (after dec j x).cpu.rip a.node p.2 (after_code wm dec p.0 w stands.new_code) (after_range lay.added wm dec p.0 w stands.added) p.3)
+          (p.0, moment_least dec lay.added bound x w (suc j) p.0 p.1, p.2, p.1.4, p.3, stub_stops (after dec p.0 w) (after dec j x).cpu.rip a.node p.2 (after_code wm dec p.0 w stands.new_heap stands.new_code) (after_range lay.added wm dec p.0 w stands.new_heap stands.below stands.added) p.3)

@@ -26,6 +26,8 @@ use Rattle.rz_isa.specs.Nodes.{Code, IsNode, spelled_at, is_site_at, direct_at}
 use Rattle.rz_machine.specs.Nodes.{code_in}
 use Rattle.rz_machine.specs.Kept.{has_edge, has_node}
 use Rattle.rz_machine.specs.LeftCode.{left_at}
+use Rattle.rz_sys.specs.Heap.{HasHeap}
+use Rattle.rz_machine.proofs.StepLaws.{step_heap}
 use Rattle.rz_machine.proofs.CodeLaws.{HasCode, fetch_same, step_code}
 
 -- an instruction never ends a run with Fetch or Unknown
@@ -159,10 +161,10 @@ begins_node : (dec : Decoder) (m : Regions) (s : Machine) → HasCode m s.mem �
 begins_node dec m s code b = record { insn = b.insn; len = b.len; spelled = begins_spelled dec m s code b }
 
 -- each instruction that is begun stands in the file
-pub begun_nodes : (dec : Decoder) (m : Regions) (n : ℕ) (s : Machine) (a : ℕ) → HasCode m s.mem → has_node (begun dec n s) a ≡ true → IsNode dec (code_in m) a
+pub begun_nodes : (dec : Decoder) (m : Regions) (n : ℕ) (s : Machine) (a : ℕ) → HasHeap s.mem s.world → HasCode m s.mem → has_node (begun dec n s) a ≡ true → IsNode dec (code_in m) a
 unfolding begun
-begun_nodes dec m zero s a code h = cc
-begun_nodes dec m (suc n) s a code h = go (begins_or dec s) (begun_nodes dec m n (step dec s) a (step_code m dec s code))
+begun_nodes dec m zero s a heap code h = cc
+begun_nodes dec m (suc n) s a heap code h = go (begins_or dec s) (begun_nodes dec m n (step dec s) a (step_heap dec s heap) (step_code m dec s heap code))
   where
     rest : List ℕ
     rest = begun dec n (step dec s)
@@ -234,10 +236,11 @@ step_direct dec m s code b e =
     subst (λ d. P d (step dec s).cpu.rip) (sym same) (subst (λ t. P (decoded.Insn b.insn b.len) t.cpu.rip) (sym stepped) there)
 
 -- each edge of a run that leaves no site is to a static successor
-pub begun_direct : (dec : Decoder) (m : Regions) (n : ℕ) (s : Machine) (a b : ℕ) → HasCode m s.mem → has_edge (neighbours (begun dec n s)) a b ≡ true → IsDirect dec (code_in m) a b
+pub begun_direct : (dec : Decoder) (m : Regions) (n : ℕ) (s : Machine) (a b : ℕ) → HasHeap s.mem s.world → HasCode m s.mem → has_edge (neighbours (begun dec n s)) a b ≡ true → IsDirect dec (code_in m) a b
 unfolding begun
-begun_direct dec m zero s a b code h = cc
-begun_direct dec m (suc n) s a b code h = go (begins_or dec s) (begun_head dec n (step dec s)) (begun_direct dec m n (step dec s) a b (step_code m dec s code))
+begun_direct dec m zero s a b heap code h = cc
+begun_direct dec m (suc n) s a b heap code h =
+    go (begins_or dec s) (begun_head dec n (step dec s)) (begun_direct dec m n (step dec s) a b (step_heap dec s heap) (step_code m dec s heap code))
   where
     rest : List ℕ
     rest = begun dec n (step dec s)

@@ -136,9 +136,8 @@ module _ (dec : Decoder) (i : ℕ) (s : Machine) (old : Kept) (now : Machine) (k
       holds_more : with_begun kept last now.cpu.rip ≡ with_run dec (suc i) s old
       holds_more = ap₂ (λ r l. with_begun r l now.cpu.rip) f.holds f.before ∙ with_run_turn dec i s old now.cpu.rip begun_here
 
-      -- where the next step begins an instruction
-      pub Followed-turn : (new : Kept) → new ≡ with_begun kept last now.cpu.rip → Followed dec (i + 1) s old next new (Some now.cpu.rip)
-      Followed-turn new added =
+      turn : (new : Kept) → new ≡ with_begun kept last now.cpu.rip → Followed dec (i + 1) s old next new (Some now.cpu.rip)
+      turn new added =
           rw add-one (record {
             at = next_is;
             stays = sym stays;
@@ -146,8 +145,15 @@ module _ (dec : Decoder) (i : ℕ) (s : Machine) (old : Kept) (now : Machine) (k
             before = sym (ap last_of (begun_suc dec i s ∙ ap (λ l. begun dec i s ++ l) begun_here) ∙ last_of-push (begun dec i s) now.cpu.rip);
           })
 
+      -- where the next step begins an instruction
+      pub Followed-turn : (at : ℕ) → at ≡ now.cpu.rip → (new : Kept) → new ≡ with_begun kept last at → Followed dec (i + 1) s old next new (Some at)
+      Followed-turn at rip new added =
+          let P : ℕ → Type 0 = λ a. new ≡ with_begun kept last a → Followed dec (i + 1) s old next new (Some a) in
+          subst P (sym rip) (turn new) added
+
       -- where there is memory for its node, but not for its edge
-      pub Followed-node : (n : ℕ) (new : Kept) → i < n → new.nodes ≡ insert_key nat_cmp kept.nodes now.cpu.rip → new.edges ≡ kept.edges → HasPart dec n s old new
+      pub Followed-node : (n at : ℕ) → at ≡ now.cpu.rip → (new : Kept) → i < n → new.nodes ≡ insert_key nat_cmp kept.nodes at → new.edges ≡ kept.edges → HasPart dec n s old new
       unfolding with_run
-      Followed-node n new lt nodes edges =
-          record { node_steps = suc i; edge_steps = i; few = (omega arith, omega arith); nodes = nodes ∙ ap (λ r. r.nodes) holds_more; edges = edges ∙ ap (λ r. r.edges) f.holds }
+      Followed-node n at rip new lt nodes edges =
+          let here = ap (insert_key nat_cmp kept.nodes) rip in
+          record { node_steps = suc i; edge_steps = i; few = (omega arith, omega arith); nodes = nodes ∙ here ∙ ap (λ r. r.nodes) holds_more; edges = edges ∙ ap (λ r. r.edges) f.holds }

@@ -1,4 +1,5 @@
 pub mod Way
+pub mod MachineState
 pub mod Kept
 pub mod Action
 pub mod State

@@ -1,5 +1,5 @@
 -- Placements: where the instructions that stand for each kept one are found in a new file's memory, in any spelling of the table.
-use Rattle.std.specs.Prelude.{◌≡◌, ℕ, ◌+◌, ◌^◌, ◌<◌, true, if◌then◌else◌, List, [], ◌∷◌}
+use Rattle.std.specs.Prelude.{◌≡◌, ℕ, ◌+◌, ◌^◌, ◌<◌, ◌≤◌, true, if◌then◌else◌, List, [], ◌∷◌}
 use Rattle.rz_num.specs.declared.width.Width.TheVariants.{W32}
 use Rattle.rz_isa.specs.declared.decoding.Decoded.TheVariants as decoded
 use Rattle.rz_isa.specs.declared.instruction.Insn.{Insn}
@@ -15,7 +15,7 @@ use Rattle.rz_machine.specs.declared.way.Way.TheVariants.{Onward, Jumps, Branche
 use Rattle.rz_machine.specs.Way.{way_of}
 use Rattle.rz_machine.specs.Kept.{Edges, Kept, has_node, has_edge}
 use Rattle.rz_machine.specs.Nodes.{code_in, IsPlausible}
-use Rattle.rz_machine.specs.Start.{start}
+use Rattle.rz_machine.specs.Start.{start, HasHeapRoom}
 use Rattle.rz_machine.specs.Added.{Layout}
 use Rattle.rz_machine.specs.Keeps.{KeepsRun}
 use Rattle.rz_machine.specs.Pace.{Paced}
@@ -68,10 +68,14 @@ pub record IsPlacement (dec : Decoder) (x : Image) (kept : Kept) (lay : Layout) 
       → FragmentAt dec kept.edges lay place m a (wrap (a + len)) y
   pub stubs : (a : ℕ) → has_node kept.nodes a ≡ true → (next : ℕ) × InsnAt dec m (lay.stub a) insn.Ud2 next
 
--- the new image w begins at the place of the old entry, in a memory that has such a placement and is else that of x
+-- the new image w begins at the place of the old entry, in a memory that has such a placement and is else that of x;
+-- both leave room for a heap, above what is added
 pub record IsPlaced (dec : Decoder) (x w : Image) (kept : Kept) (lay : Layout) (place : ℕ → ℕ) : Type 0 where
   pub begins : w.entry ≡ place x.entry
   pub first_break : w.first_break ≡ x.first_break
+  pub old_heap : HasHeapRoom x
+  pub new_heap : HasHeapRoom w
+  pub below : lay.added.high ≤ x.first_break
   pub alike : (input : Input) → Alike lay.added (start x input).mem (start w input).mem
   pub placement : (input : Input) → IsPlacement dec x kept lay place (start w input).mem
 

@@ -1,12 +1,14 @@
 -- The opening state of an accepted file on a valid input
 -- (after the System V ABI for x86-64, section 3.4.1, "Initial Stack and Register State", without environment or auxiliary entries).
-use Rattle.std.specs.Prelude.{ℕ, ◌+◌, ◌-◌, ◌*◌, ◌%◌, ◌^◌, false, List, [], ◌∷◌, ◌++◌, length, set, replicate, flat_map, None}
+use Rattle.std.specs.Prelude.{◌≡◌, ℕ, ◌+◌, ◌-◌, ◌*◌, ◌%◌, ◌^◌, ◌≤◌, false, List, [], ◌∷◌, ◌++◌, length, set, replicate, flat_map, None}
+use Rattle.std.specs.List.{AllByRecursion}
 use Rattle.byteorder.specs.Endian.{little_bytes}
 use Rattle.rz_flags.specs.declared.Flags.{Flags}
 use Rattle.rz_machine.specs.declared.machine.Machine.{Machine}
 use Rattle.rz_image.specs.Perm.{read_write}
 use Rattle.rz_image.specs.declared.region.Region.{Region}
 use Rattle.rz_sys.specs.declared.input.Input.{Input}
+use Rattle.rz_sys.specs.declared.world.World.{World}
 use Rattle.rz_sys.specs.Input.{strings}
 use Rattle.rz_image.specs.Memory.{zeros}
 use Rattle.rz_elf.specs.Elf.{Image}
@@ -52,14 +54,32 @@ no_flags = record { cf = false; pf = false; af = false; zf = false; sf = false; 
 unfoldable pub first_regs : Input → List ℕ
 first_regs input = set (replicate 16 0) 4 (first_rsp input.args)
 
+-- nothing is read yet; the heap's region follows the loads
+abbrev pub first_world : Image → Input → World
+first_world image input =
+    record {
+      stdin = input.stdin;
+      replies = input.replies;
+      events = [];
+      first_break = image.first_break;
+      brk = image.first_break;
+      heap = length image.loads;
+    }
+
 abbrev pub start : Image → Input → Machine
 start image input =
     record {
       cpu = record { regs = first_regs input; rip = image.entry; flags = no_flags };
       mem = image.loads ++ heap_region image.first_break ∷ stack_region input ∷ [];
-      world = record { stdin = input.stdin; replies = input.replies; events = []; first_break = image.first_break; brk = image.first_break };
+      world = first_world image input;
       end = None;
     }
+
+-- what is loaded leaves room for a heap: the first break is a low page, and the loads end there or before
+pub record HasHeapRoom (image : Image) : Type 0 where
+  pub page : image.first_break % 4096 ≡ 0
+  pub low : image.first_break ≤ 0x70000000
+  pub loads : AllByRecursion (λ r. r.base + length r.bytes ≤ image.first_break) image.loads
 
 -- the opening state of what was read of a file
 abbrev pub first_state : ElfFile → Input → Machine

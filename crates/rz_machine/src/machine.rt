@@ -16,6 +16,7 @@ use rz_num::OutOfMemory;
 use rz_sys::call::syscall;
 use rz_sys::world::World;
 use std::alloc::Global;
+use std::marker::Model;
 
 // Registers that a system call leaves changed (Intel SDM, volume 2, "SYSCALL").
 const RCX: usize = 1;
@@ -43,13 +44,24 @@ pub enum End {
     Popped,
 }
 
-/// The state of a run.
+/// The state of a run. Its heap is the region that its world says.
 #[derive(Drop)]
 pub struct Machine {
     pub cpu: Cpu,
     pub mem: Memory,
     pub world: World,
     pub end: Option<End>,
+}
+
+impl Model for Machine {
+    ghost use Rattle.rz_machine.specs.MachineState.{MachineState};
+    ghost use Rattle.rz_sys.specs.Heap.{HasHeap};
+
+    ghost Value = { MachineState };
+
+    ghost view = { λ s. record { cpu = s.cpu; mem = s.mem; world = s.world; end = s.end } };
+
+    ghost invariant = { λ s. HasHeap s.mem s.world };
 }
 
 /// Whether some steps ended a run.

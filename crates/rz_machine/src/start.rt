@@ -19,7 +19,7 @@ use rz_image::region::Region;
 use rz_num::{Bytes, OutOfMemory, Words};
 use rz_sys::event::Events;
 use rz_sys::input::Input;
-use rz_sys::world::World;
+use rz_sys::world::{Unread, World};
 use std::alloc::Global;
 
 // The stack's address and size in bytes, the address where it ends, and the size of the heap.
@@ -59,8 +59,10 @@ pub fn start(alloc: Global, elf: &Elf, input: &Input) -> Result<Machine, OutOfMe
     ensures { IfOk result (λ machine. machine ≡ start_of (loaded elf.now) input.now) }
 {
     let stack = first_stack(alloc, input.args.as_slice())?;
+    let first_break = elf.first_break;
     let mut regions = load_regions(alloc, elf)?;
-    regions.push(heap(alloc, elf.first_break)?)?;
+    let heap_number = regions.len() as u32;
+    regions.push(heap(alloc, first_break)?)?;
     regions.push(stack_region(stack.bytes))?;
     Ok(Machine {
         cpu: Cpu {
@@ -70,11 +72,12 @@ pub fn start(alloc: Global, elf: &Elf, input: &Input) -> Result<Machine, OutOfMe
         },
         mem: Memory::new(regions),
         world: World {
-            stdin: Bytes::from_slice(alloc, input.stdin.as_slice())?,
+            stdin: Unread::from_bytes(Bytes::from_slice(alloc, input.stdin.as_slice())?),
             replies: input.replies.copy(alloc)?,
             events: Events::new(alloc),
-            first_break: elf.first_break,
-            brk: elf.first_break,
+            first_break,
+            brk: first_break,
+            heap: heap_number,
         },
         end: None,
     })

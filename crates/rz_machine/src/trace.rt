@@ -218,6 +218,8 @@ pub fn trace<T: InsnTable>(
         (IsUncut (decoded T.rows) rec.new.edges (first_state elf.now input.now) limit) }
 {
     let mut machine = start(alloc, elf, input)?;
+    // From here on it is known what a machine keeps.
+    let _ = &machine.end;
     follow::<T>(alloc, &mut machine, limit, rec)
 }
 

@@ -44,6 +44,7 @@ use Rattle.rz_image.specs.Laws.Cells.{IsFixed, none_self_written}
 use Rattle.rz_rewrite.proofs.Images.{all_append, stripped_fixed, stripped_same, Whole, code_at, stubs_at, stop_at, code_there, stubs_there, beside, added_fixed}
 use Rattle.rz_rewrite.proofs.PlainNodes.{plain_fixed, Stands, stands, fetched_bytes}
 use Rattle.rz_rewrite.proofs.Parts.{Lie, stub_found}
+use Rattle.rz_rewrite.proofs.HeapRoom.{stop_below, written_room}
 use Rattle.rz_rewrite.proofs.RewrittenLaws.{stubs_room, place_below, place_in_code, stop_low, label_low, lie}
 
 module _ (rows : List Row) (facts : TableFacts rows) (x : Image) (kept : Kept) (parts : Parts) (entry : ℕ) (fit : IsFit (decoded rows) x kept) (are : IsRewritten rows x kept parts entry) (new_plain : IsPlainImage (new_image x parts entry)) where
@@ -189,7 +190,18 @@ module _ (rows : List Row) (facts : TableFacts rows) (x : Image) (kept : Kept) (
         }
 
   pub placed_written : IsPlaced dec x w kept lay place
-  placed_written = record { begins = are.begins; first_break = refl; alike = alike; placement = placement }
+  placed_written =
+      let below = stop_below dec x kept fit.heap in
+      let stop = (lie dec x kept fit.room parts entry are.parts_added).stop in
+      record {
+        begins = are.begins;
+        first_break = refl;
+        old_heap = fit.heap;
+        new_heap = written_room x parts entry fit.heap (omega (arith, below, stop));
+        below = below;
+        alike = alike;
+        placement = placement;
+      }
 
   module _ (input : Input) where
     both : KeepsRun dec kept.edges lay (start x input) (start w input) × Paced dec kept.edges lay (λ b. 3) (start x input) (start w input)

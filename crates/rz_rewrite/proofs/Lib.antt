@@ -20,3 +20,4 @@ pub mod RewriteLaws
 pub mod EmittedItems
 pub mod KeptNodes
 pub mod SpelledParts
+pub mod HeapRoom

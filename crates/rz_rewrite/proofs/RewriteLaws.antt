@@ -8,6 +8,7 @@ use Rattle.rz_elf.specs.PlainImage.{IsPlainImage}
 use Rattle.rz_elf.specs.AddedRange.{tables_size, code_size, stubs_size, parts_below}
 use Rattle.rz_elf.specs.Room.{extent_of, no_room}
 use Rattle.rz_elf.specs.WrittenFile.{Parts, new_image}
+use Rattle.rz_elf.specs.Laws.Loads.{loaded_image}
 use Rattle.rz_elf.specs.Laws.PlainAccepted.{accepted_plain}
 use Rattle.rz_isa.specs.declared.rows.Row.{Row}
 use Rattle.rz_isa.specs.Decoded.{decoded}
@@ -18,7 +19,8 @@ use Rattle.rz_machine.specs.Nodes.{code_in}
 use Rattle.rz_machine.specs.Added.{node_count, site_count, site_edge_count, added, layout_of}
 use Rattle.rz_machine.specs.Keeps.{Keeps, KeepsRun}
 use Rattle.rz_machine.specs.Placement.{IsPlaced}
-use Rattle.rz_machine.specs.Start.{start}
+use Rattle.rz_machine.specs.Start.{start, HasHeapRoom}
+use Rattle.rz_machine.proofs.StartHeap.{read_room}
 use Rattle.rz_rewrite.specs.declared.added.AddedRange.{AddedRange}
 use Rattle.rz_rewrite.specs.Calls.Plan.{IsPlanned, kept_set}
 use Rattle.rz_rewrite.specs.Laws.Sites.{no_sites, no_site_edges}
@@ -34,10 +36,14 @@ use Rattle.rz_rewrite.proofs.KeepsWritten.{placed_written, keeps_written}
 pub plain_read : (elf : ElfFile) (bytes : List ℕ) → IsRead elf → bytes ≡ elf.bytes → ((i : ℕ) → slice_index bytes i < 256) → IsPlainImage (image_of elf.bytes)
 plain_read elf bytes is same each = accepted_plain elf.bytes (subst (AllByRecursion (λ b. b < 256)) same (each_byte bytes each)) is.accepted
 
+-- and leaves room for a heap
+pub heap_read : (elf : ElfFile) → IsRead elf → HasHeapRoom (image_of elf.bytes)
+heap_read elf is = subst HasHeapRoom (loaded_image elf is) (read_room elf is)
+
 -- what is planned is fit
 pub fit_of : (dec : Decoder) (x : List ℕ) (nodes : List ℕ) (edges : Edges) (r : AddedRange) → IsPlanned dec x nodes edges r → IsFit dec (image_of x) (kept_set nodes edges)
 fit_of dec x nodes edges r q =
-    record { plain = q.plain; plausible = q.plausible; transfers = q.transfers; reach = q.reach; room = has_room dec x (kept_set nodes edges) q.room }
+    record { plain = q.plain; heap = q.heap; plausible = q.plausible; transfers = q.transfers; reach = q.reach; room = has_room dec x (kept_set nodes edges) q.room }
 
 module _ (rows : List Row) (facts : TableFacts rows) (x w : List ℕ) (kept : Kept) (fit : IsFit (decoded rows) (image_of x) kept) (parts : Parts) (entry : ℕ) (are : IsRewritten rows (image_of x) kept parts entry)
     (image : image_of w ≡ new_image (image_of x) parts entry) (new_plain : IsPlainImage (new_image (image_of x) parts entry)) where
@@ -83,10 +89,11 @@ module _ (dec : Decoder) (x : List ℕ) (kept : Kept) (can : CanRewrite dec (ima
   set_is = ap (λ l. kept_set l kept.edges) same
 
   -- so they are planned
-  pub planned : (r : AddedRange) → IsPlainImage (image_of x) → rip_reach_of dec x kept ≡ None → no_room (extent_of x) (size_for n 0 0) ≡ None
+  pub planned : (r : AddedRange) → IsPlainImage (image_of x) → HasHeapRoom (image_of x) → rip_reach_of dec x kept ≡ None → no_room (extent_of x) (size_for n 0 0) ≡ None
       → range_of r ≡ parts_below (tables_size 0 0) (code_size n 0 0) (stubs_size n) (extent_of x).floor → IsPlanned dec x nodes kept.edges r
-  planned r plain reach free is = record {
+  planned r plain heap reach free is = record {
     plain = plain;
+    heap = heap;
     plausible = subst (λ k. CanRewrite dec (image_of x) k) (sym set_is) can;
     transfers = subst (λ k. HasNoTransfers dec (image_of x) k) (sym set_is) none;
     reach = subst (λ k. IsInReach dec (image_of x) k) (sym set_is) reach;

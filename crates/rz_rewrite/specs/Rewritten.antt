@@ -18,7 +18,7 @@ use Rattle.rz_machine.specs.Added.{node_count, site_count, site_edge_count, adde
 use Rattle.rz_elf.specs.AddedRange.{scratch_size, tables_size, code_size, stubs_size, lowest, page_floor}
 use Rattle.rz_machine.specs.WrittenFile.{IsAdded}
 use Rattle.rz_elf.specs.WrittenFile.{Parts, new_image}
-use Rattle.rz_machine.specs.Start.{start}
+use Rattle.rz_machine.specs.Start.{start, HasHeapRoom}
 use Rattle.rz_machine.specs.Keeps.{KeepsRun}
 use Rattle.rz_machine.specs.Placement.{IsPlaced}
 use Rattle.rz_machine.specs.Pace.{Paced}
@@ -49,9 +49,10 @@ HasRoom dec x kept =
     let e = site_edge_count dec x kept in
     scratch_size + tables_size j e + code_size n j e + stubs_size n ≤ page_floor (lowest x.loads)
 
--- all of it, for a plain image
+-- all of it, for a plain image that leaves room for a heap
 pub record IsFit (dec : Decoder) (x : Image) (kept : Kept) : Type 0 where
   pub plain : IsPlainImage x
+  pub heap : HasHeapRoom x
   pub plausible : CanRewrite dec x kept
   pub transfers : HasNoTransfers dec x kept
   pub reach : IsInReach dec x kept

@@ -2,7 +2,7 @@
 use Rattle.std.specs.Prelude.{◌≡◌}
 use Rattle.rz_sys.specs.declared.world.World.{World}
 
--- equal rests of input and replies, events, first break and break
+-- equal rests of input and replies, events, first break and break; the number of the heap's region is aside
 pub record SameWorld (v w : World) : Type 0 where
   pub stdin : v.stdin ≡ w.stdin
   pub replies : v.replies ≡ w.replies

@@ -1,16 +1,17 @@
 //! System calls: what they answer, record and leave.
 
-ghost use Rattle.std.specs.Prelude.{◌≡◌, ◌≤◌, ◌+◌, ◌^◌, set, IfOk, OnOk, OnErr};
+ghost use Rattle.std.specs.Prelude.{◌≡◌, ◌≤◌, ◌+◌, ◌^◌, length, set, IfOk, OnOk, OnErr};
 ghost use Rattle.rz_sys.specs.declared.world.World.{World};
 ghost use Rattle.rz_image.specs.Memory.{bytes_at};
-ghost use Rattle.rz_sys.specs.Answer.{answer as answer_of, answer_as, negative as negative_of, write_reply as write_reply_of, world_after, regs_left, rdi, rsi, rdx, Write};
+ghost use Rattle.rz_sys.specs.Answer.{answer as answer_of, answer_as, negative as negative_of, received, write_reply as write_reply_of, world_after, regs_left, rdi, rsi, rdx, Read, Write, Brk};
 ghost use Rattle.rz_sys.specs.Calls.Recorded.{recorded_call};
+ghost use Rattle.rz_sys.specs.Heap.{HasHeap};
 
 use crate::event::Event;
 use crate::input::Reply;
 use crate::world::World;
 use rz_image::memory::Memory;
-use rz_num::{Bytes, OutOfMemory};
+use rz_num::{Bytes, OutOfMemory, page_up};
 use std::alloc::Global;
 
 // The numbers of the registers that a call reads (Intel SDM, volume 2, table 3-1).
@@ -25,6 +26,9 @@ const RDI: usize = 7;
 // The most bytes that one call moves.
 const MOST: u64 = 0x7fff_f000;
 
+// The size of the heap's region, in bytes.
+const HEAP_SIZE: u64 = 0x100_0000;
+
 // Error numbers: no such descriptor, no such address, no such call.
 const BAD_FILE: u64 = 9;
 
@@ -34,6 +38,7 @@ const NO_CALL: u64 = 38;
 
 /// Makes the system call that the registers name, and records it. It answers the status where the call ends the run;
 /// else RAX is the call's answer. It refuses for want of memory alone, and then nothing is changed.
+/// Read, write, brk, exit and exit_group are there. The world's heap stays one.
 #[tactic(auto, unfolding(crate::specs::Answer::answer))]
 pub fn syscall(
     alloc: Global,
@@ -41,14 +46,24 @@ pub fn syscall(
     mem: &mut Memory,
     world: &mut World,
 ) -> Result<Option<u8>, OutOfMemory>
+    requires { HasHeap mem.old world.old }
     ensures status { IfOk result (λ exit. exit ≡ (answer_of regs.old mem.old world.old).exit) }
     ensures regs { OnOk result (regs.new ≡ regs_left regs.old (answer_of regs.old mem.old world.old)) }
     ensures mem { OnOk result (mem.new ≡ (answer_of regs.old mem.old world.old).mem) }
     ensures world { OnOk result (world.new ≡ world_after regs.old world.old (answer_of regs.old mem.old world.old)) }
     ensures err { OnErr result ((regs.new ≡ regs.old) × (mem.new ≡ mem.old) × (world.new ≡ world.old)) }
+    ensures heap { HasHeap mem.new world.new }
 {
     let number = regs[RAX];
     let first = regs[RDI];
+    if number == 0 {
+        if first == 0 {
+            read(alloc, regs, mem, world)?;
+            return Ok(None);
+        }
+        answered(world, regs, negative(BAD_FILE), Bytes::new(alloc))?;
+        return Ok(None);
+    }
     if number == 1 {
         if first == 1 || first == 2 {
             write(alloc, regs, mem, world)?;
@@ -57,12 +72,91 @@ pub fn syscall(
         answered(world, regs, negative(BAD_FILE), Bytes::new(alloc))?;
         return Ok(None);
     }
+    if number == 12 {
+        brk(alloc, regs, mem, world)?;
+        return Ok(None);
+    }
     if number == 60 || number == 231 {
         note(world, regs, 0, Bytes::new(alloc))?;
         return Ok(Some((first % 256) as u8));
     }
     answered(world, regs, negative(NO_CALL), Bytes::new(alloc))?;
     Ok(None)
+}
+
+// A read of standard input.
+fn read(
+    alloc: Global,
+    regs: &mut [u64; 16],
+    mem: &mut Memory,
+    world: &mut World,
+) -> Result<(), OutOfMemory>
+    ensures regs { OnOk result (regs.new ≡ regs_left regs.old (answer_as Read (rdi regs.old) (rsi regs.old) (rdx regs.old) mem.old world.old)) }
+    ensures mem { OnOk result (mem.new ≡ (answer_as Read (rdi regs.old) (rsi regs.old) (rdx regs.old) mem.old world.old).mem) }
+    ensures world { OnOk result (world.new ≡ world_after regs.old world.old (answer_as Read (rdi regs.old) (rsi regs.old) (rdx regs.old) mem.old world.old)) }
+    ensures err { OnErr result ((regs.new ≡ regs.old) × (mem.new ≡ mem.old) × (world.new ≡ world.old)) }
+{
+    let at = regs[RSI];
+    let count = regs[RDX].min(MOST);
+    if !mem.can_write(at, count) {
+        return answered(world, regs, negative(BAD_ADDRESS), Bytes::new(alloc));
+    }
+    let most = (count as usize).min(world.stdin.as_slice().len());
+    match world.replies.first() {
+        Reply::Full => receive(alloc, regs, mem, world, most),
+        Reply::AtMost(number) => receive(alloc, regs, mem, world, (number as usize).min(most)),
+        Reply::Error(number) => {
+            answered(world, regs, negative(number), Bytes::new(alloc))?;
+            world.replies.advance();
+            Ok(())
+        }
+    }
+}
+
+// A read that moves `count` bytes.
+fn receive(
+    alloc: Global,
+    regs: &mut [u64; 16],
+    mem: &mut Memory,
+    world: &mut World,
+    count: usize,
+) -> Result<(), OutOfMemory>
+    requires { count ≤ length world.old.stdin }
+    ensures regs { OnOk result (regs.new ≡ regs_left regs.old (received count (rsi regs.old) mem.old world.old)) }
+    ensures mem { OnOk result (mem.new ≡ (received count (rsi regs.old) mem.old world.old).mem) }
+    ensures world { OnOk result (world.new ≡ world_after regs.old world.old (received count (rsi regs.old) mem.old world.old)) }
+    ensures err { OnErr result ((regs.new ≡ regs.old) × (mem.new ≡ mem.old) × (world.new ≡ world.old)) }
+{
+    let at = regs[RSI];
+    let bytes = Bytes::from_slice(alloc, &world.stdin.as_slice()[..count])?;
+    answered(world, regs, count as u64, bytes)?;
+    mem.store_bytes(at, &world.stdin.as_slice()[..count]);
+    world.stdin.advance(count);
+    world.replies.advance();
+    Ok(())
+}
+
+// A request for another break.
+fn brk(
+    alloc: Global,
+    regs: &mut [u64; 16],
+    mem: &mut Memory,
+    world: &mut World,
+) -> Result<(), OutOfMemory>
+    requires { HasHeap mem.old world.old }
+    ensures regs { OnOk result (regs.new ≡ regs_left regs.old (answer_as Brk (rdi regs.old) (rsi regs.old) (rdx regs.old) mem.old world.old)) }
+    ensures mem { OnOk result (mem.new ≡ (answer_as Brk (rdi regs.old) (rsi regs.old) (rdx regs.old) mem.old world.old).mem) }
+    ensures world { OnOk result (world.new ≡ world_after regs.old world.old (answer_as Brk (rdi regs.old) (rsi regs.old) (rdx regs.old) mem.old world.old)) }
+    ensures err { OnErr result ((regs.new ≡ regs.old) × (mem.new ≡ mem.old) × (world.new ≡ world.old)) }
+{
+    let request = regs[RDI];
+    if request < world.first_break || request > world.first_break + HEAP_SIZE {
+        return answered(world, regs, world.brk, Bytes::new(alloc));
+    }
+    answered(world, regs, request, Bytes::new(alloc))?;
+    mem.set_open(world.heap, page_up(request) - world.first_break);
+    world.brk = request;
+    Ok(())
 }
 
 // A write to standard output or error.

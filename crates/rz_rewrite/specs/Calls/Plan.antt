@@ -6,6 +6,7 @@ use Rattle.rz_elf.specs.Elf.{image_of}
 use Rattle.rz_elf.specs.PlainImage.{IsPlainImage}
 use Rattle.rz_machine.specs.Kept.{Edges, Kept, sorted}
 use Rattle.rz_machine.specs.Added.{added}
+use Rattle.rz_machine.specs.Start.{HasHeapRoom}
 use Rattle.rz_rewrite.specs.declared.added.AddedRange.{AddedRange}
 use Rattle.rz_rewrite.specs.Places.{range_of}
 use Rattle.rz_rewrite.specs.Reach.{is_out_of_reach}
@@ -22,6 +23,7 @@ kept_set nodes edges = record { nodes = nodes; edges = edges }
 -- these ascending nodes and these edges could be left by traces of the file, and their parts have room and lie in this range
 pub record IsPlanned (dec : Decoder) (x : List ℕ) (nodes : List ℕ) (edges : Edges) (range : AddedRange) : Type 0 where
   pub plain : IsPlainImage (image_of x)
+  pub heap : HasHeapRoom (image_of x)
   pub plausible : CanRewrite dec (image_of x) (kept_set nodes edges)
   pub transfers : HasNoTransfers dec (image_of x) (kept_set nodes edges)
   pub reach : IsInReach dec (image_of x) (kept_set nodes edges)

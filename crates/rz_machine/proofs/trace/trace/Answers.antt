@@ -1,4 +1,6 @@
-use Rattle.std.proofs.Common.{Result, Ok, Err, OnOk}
+use Rattle.std.proofs.Common.{Result, Ok, Err, OnOk, subst}
+use Rattle.rz_sys.specs.Heap.{HasHeap}
+use Rattle.rz_machine.specs.MachineState.{MachineState}
 use Rattle.rz_machine.proofs.TraceTurns.{no_memory, HasPart-nothing}
 use Rattle.rz_machine.proofs.RecordedLaws.{traced_plausible, traced_uncut}
 use Rattle.rz_machine.proofs.trace.trace.Goals as goal
@@ -12,7 +14,8 @@ returns-in_err-machine-clause-refused g c = no_memory _ _ _ _ _ _ c.from_residua
 
 pub returns-clause-plausible : goal.returns-clause-plausible
 returns-clause-plausible g c =
-    on_both _ _ _ c.follow.result c.follow.ensures.ok c.follow.ensures.stays (traced_plausible _ _ _ _ _ _ _ c.in_ok-machine.ensures)
+    let heap = subst (λ (s : MachineState). HasHeap s.mem s.world) c.machine.view_is c.machine.invariant in
+    on_both _ _ _ c.follow.result c.follow.ensures.ok c.follow.ensures.stays (traced_plausible _ _ _ _ _ _ _ heap c.in_ok-machine.ensures)
 
 pub returns-clause-uncut : goal.returns-clause-uncut
 returns-clause-uncut g c = on_both _ _ _ c.follow.result c.follow.ensures.ok c.follow.ensures.stays (traced_uncut _ _ _ _ _ _ c.in_ok-machine.ensures)

@@ -10,7 +10,7 @@ use Rattle.rz_machine.specs.WrittenFile.{Inert}
 use Rattle.rz_rewrite.specs.Calls.Plan.{kept_set}
 use Rattle.rz_rewrite.specs.Rewritten.{HasPlacement}
 use Rattle.rz_rewrite.proofs.NodeCount.{nodes_few}
-use Rattle.rz_rewrite.proofs.RewriteLaws.{plain_read, planned, first_reach, count_is, room_is, range_is}
+use Rattle.rz_rewrite.proofs.RewriteLaws.{plain_read, heap_read, planned, first_reach, count_is, room_is, range_is}
 use Rattle.rz_rewrite.proofs.rewrite.rewrite.Goals as goal
 
 pub added_range-requires : goal.added_range-requires
@@ -31,7 +31,7 @@ write_new-requires g c =
     record {
       can =
           planned (decoded g.T.InsnTable.rows) elf.bytes (kept_in c.args.kept.now) c.requires.plausible c.requires.transfers c.as_slice-nodes.result.now (c.as_slice-nodes.ensures.value ∙ c.in_ok-words.ensures.same) c.in_ok-words.ensures.order
-          c.in-Ok.range plain (first_reach (decoded g.T.InsnTable.rows) c.args.elf.now.bytes (kept_in c.args.kept.now) c.as_slice-nodes.result.now (c.as_slice-nodes.ensures.value ∙ c.in_ok-words.ensures.same) c.in_ok-words.ensures.order c.first_out_of_reach.result c.first_out_of_reach.ensures ∙ c.in_default.is) c.in-Ok.ensures.room c.in-Ok.ensures.range;
+          c.in-Ok.range plain (heap_read elf is) (first_reach (decoded g.T.InsnTable.rows) c.args.elf.now.bytes (kept_in c.args.kept.now) c.as_slice-nodes.result.now (c.as_slice-nodes.ensures.value ∙ c.in_ok-words.ensures.same) c.in_ok-words.ensures.order c.first_out_of_reach.result c.first_out_of_reach.ensures ∙ c.in_default.is) c.in-Ok.ensures.room c.in-Ok.ensures.range;
     }
 
 pub returns-in-Some-clause-refused : goal.returns-in-Some-clause-refused
