@@ -2,3 +2,5 @@
 #![tactic(auto)]
 
 pub mod run_text;
+#[cfg(test)]
+mod tests;
