@@ -19,3 +19,5 @@ pub mod StartRegions
 pub mod StackLaws
 mod StartRows
 pub mod StartHeap
+pub mod StubLaws
+mod StubRows
