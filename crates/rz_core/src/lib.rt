@@ -4,9 +4,12 @@
 pub mod answer;
 mod check;
 mod debloat;
+mod disasm;
+mod generate;
 pub mod making;
 pub mod reading;
 pub mod status;
 pub mod texts;
 pub mod tool;
 pub mod words;
+mod writing;
