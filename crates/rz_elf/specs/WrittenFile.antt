@@ -29,9 +29,13 @@ segment_bytes s =
     ++ (little_bytes 8 s.memsz
     ++ little_bytes 8 s.align))))))
 
--- ELF, 64 bits, low byte first, version 1, System V; then the stamp RZSTUB1
+-- the stamp of a written file, in the padding of its identification: RZSTUB1
+abbrev pub stamp : List ℕ
+stamp = 0x52 ∷ 0x5a ∷ 0x53 ∷ 0x54 ∷ 0x55 ∷ 0x42 ∷ 0x31 ∷ []
+
+-- ELF, 64 bits, low byte first, version 1, System V; then the stamp (System V gABI, chapter 4, "ELF Identification")
 abbrev pub identity : List ℕ
-identity = 0x7f ∷ 0x45 ∷ 0x4c ∷ 0x46 ∷ 2 ∷ 1 ∷ 1 ∷ 0 ∷ 0 ∷ 0x52 ∷ 0x5a ∷ 0x53 ∷ 0x54 ∷ 0x55 ∷ 0x42 ∷ 0x31 ∷ []
+identity = 0x7f ∷ 0x45 ∷ 0x4c ∷ 0x46 ∷ 2 ∷ 1 ∷ 1 ∷ 0 ∷ 0 ∷ stamp
 
 -- the file header of an executable for x86-64 with this entry and this number of program headers, and no sections
 abbrev pub header_bytes : ℕ → ℕ → List ℕ

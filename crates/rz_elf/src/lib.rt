@@ -13,5 +13,6 @@ pub mod placed;
 pub mod read;
 pub mod room;
 pub mod segment;
+pub mod stamp;
 #[cfg(test)]
 mod tests;

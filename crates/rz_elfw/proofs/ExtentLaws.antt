@@ -1,14 +1,14 @@
 -- What is measured of a file that was read is what it takes.
-use Rattle.std.proofs.Common.{◌≡◌, ℕ, ◌+◌, ◌≤◌, List, [], ◌∷◌, map, refl, sym, ap, ap₂, ◌∙◌, subst, arith}
+use Rattle.std.proofs.Common.{◌≡◌, ◌+◌, ◌≤◌, List, [], ◌∷◌, map, refl, sym, ap, ◌∙◌, arith}
 use Rattle.std.specs.Prelude.{filter, sum_by}
 use Rattle.std.proofs.lemmas.List.Sums.{sum_by-cons}
 use Rattle.std.proofs.lemmas.Bool.Decides.{nat_tests}
 use Rattle.rz_elf.specs.declared.elf.Load.{Load}
 use Rattle.rz_elf.specs.declared.placed.Placed.{Placed}
 use Rattle.rz_elf.specs.declared.segment.Segment.{Segment}
-use Rattle.rz_elf.specs.Elf.{file_header, loads, load_conditions, placed, fault_of, Image, image_of}
+use Rattle.rz_elf.specs.Elf.{file_header, loads, load_conditions, placed, Image, image_of}
 use Rattle.rz_elf.specs.AddedRange.{lowest, page_floor}
-use Rattle.rz_elf.specs.Loaded.{ElfFile, IsRead, is_load_header, load_of, elf_of, loaded_region, loaded}
+use Rattle.rz_elf.specs.Loaded.{ElfFile, IsRead, is_load_header, load_of, loaded_region}
 use Rattle.rz_elf.specs.Laws.Conditions.{none_holds}
 use Rattle.rz_elf.specs.Laws.HeaderList.{loads_placed}
 use Rattle.rz_elf.specs.Laws.Loads.{loaded_image}

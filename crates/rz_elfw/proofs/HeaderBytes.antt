@@ -1,5 +1,5 @@
 -- What is read of a header page is what was written.
-use Rattle.std.proofs.Common.{◌≡◌, ℕ, ◌+◌, ◌-◌, ◌*◌, ◌^◌, ◌<◌, ◌≤◌, true, List, [], ◌∷◌, ◌++◌, length, drop, refl, sym, ap, ◌∙◌, arith, append_assoc}
+use Rattle.std.proofs.Common.{◌≡◌, ℕ, ◌+◌, ◌-◌, ◌*◌, ◌^◌, ◌<◌, ◌≤◌, true, List, [], ◌∷◌, ◌++◌, length, drop, refl, ap, ◌∙◌, arith, append_assoc}
 use Rattle.std.specs.Prelude.{flat_map, nat_eq, slice_index}
 use Rattle.std.specs.List.{AllByRecursion, starts_with}
 use Rattle.std.proofs.lemmas.List.{drop_at, get_or-drop, length-append}
@@ -10,7 +10,7 @@ use Rattle.rz_image.specs.Laws.Zeros.{length-zeros}
 use Rattle.rz_elf.specs.declared.segment.Segment.{Segment}
 use Rattle.rz_elf.specs.declared.header.FileHeader.{FileHeader}
 use Rattle.rz_elf.specs.Elf.{field, file_header, segment_of, segments, segments_of}
-use Rattle.rz_elf.specs.WrittenFile.{segment_bytes, header_bytes, header_page}
+use Rattle.rz_elf.specs.WrittenFile.{segment_bytes, header_page}
 use Rattle.rz_elf.specs.Laws.Accepted.{executable_header}
 
 -- each is a byte

@@ -6,3 +6,4 @@ pub mod Writable
 pub mod NewHeaders
 pub mod NewFile
 pub mod ExtentLaws
+pub mod StampLaws

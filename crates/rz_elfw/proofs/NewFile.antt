@@ -1,6 +1,6 @@
 -- The written file is accepted, and what it loads are the original's loads, none of them executable, and the added ones.
-use Rattle.std.proofs.Common.{◌≡◌, ℕ, ◌+◌, ◌-◌, ◌*◌, ◌%◌, ◌^◌, ◌<◌, ◌≤◌, Bool, true, false, not, ◌==◌, if◌then◌else◌, List, [], ◌∷◌, ◌++◌, length, take, drop, map, max, Option, Some, None, refl, sym, ap, ap₂, ◌∙◌, subst, arith, append_assoc, append-nil, drop-drop, length-drop}
-use Rattle.std.specs.Prelude.{filter, sum_by, flat_map}
+use Rattle.std.proofs.Common.{◌≡◌, ℕ, ◌+◌, ◌-◌, ◌%◌, ◌^◌, ◌<◌, ◌≤◌, Bool, true, false, if◌then◌else◌, List, [], ◌∷◌, ◌++◌, length, take, drop, map, max, Some, None, refl, sym, ap, ap₂, ◌∙◌, subst, arith, append_assoc, append-nil, drop-drop, length-drop}
+use Rattle.std.specs.Prelude.{filter, sum_by}
 use Rattle.std.specs.List.{AllByRecursion, list_any}
 use Rattle.std.proofs.lemmas.List.{drop_at, drop-append-le, length-append, take_at, take-append-le}
 use Rattle.std.proofs.lemmas.List.Sums.{sum_by-append, sum_by-cons}
@@ -13,17 +13,17 @@ use Rattle.rz_image.specs.Memory.{zeros, whole_region}
 use Rattle.rz_image.specs.Laws.Zeros.{length-zeros}
 use Rattle.rz_elf.specs.declared.segment.Segment.{Segment}
 use Rattle.rz_elf.specs.declared.header.FileHeader.{FileHeader}
-use Rattle.rz_elf.specs.Elf.{segments, is_load, loads, file_header, placed, placed_from, has_entry, file_conditions, header_conditions, load_conditions, fault_of, load_bytes, load_region, highest_end, Image, image_of}
+use Rattle.rz_elf.specs.Elf.{segments, is_load, loads, file_header, placed, placed_from, has_entry, file_conditions, header_conditions, load_conditions, fault_of, load_bytes, load_region, highest_end, image_of}
 use Rattle.rz_elf.specs.AddedRange.{page_floor, scratch_size}
 use Rattle.rz_elf.specs.WrittenFile.{Parts, added_segment, added_segments, new_segments, moved, without_execute, header_page, written_file, added_regions, without_code, new_image}
-use Rattle.rz_elf.specs.Room.{parts_end, parts_size}
-use Rattle.rz_elf.specs.Laws.Accepted.{IsGoodLoad, IsPast, IsHeaded, executable_header, file_good, sound_where_good}
+use Rattle.rz_elf.specs.Room.{parts_end}
+use Rattle.rz_elf.specs.Laws.Accepted.{IsGoodLoad, IsHeaded, executable_header, file_good, sound_where_good}
 use Rattle.rz_elf.specs.Laws.Conditions.{NoneHolds, first_of_none, NoneHolds-append}
 use Rattle.rz_elf.specs.Laws.Sound.{IsSound, faultless_where_sound}
 use Rattle.rz_elfw.proofs.HeaderBytes.{IsEncodable, bytes_on, paged_header, paged_magic, paged_class, paged_order, paged_version, paged_segments, paged_rest, length-paged}
-use Rattle.rz_elfw.proofs.NewHeaders.{later_load, moved_load, load_first, kept_sound, kept_encodable, loads_kept}
+use Rattle.rz_elfw.proofs.NewHeaders.{moved_load, kept_sound, kept_encodable, loads_kept}
 use Rattle.rz_elfw.proofs.Original.{kept_of, short, sound_headers}
-use Rattle.rz_elfw.proofs.Writable.{IsWritable, HasRoom, IsLoadOf, room, loads_above, loads_of, some_load, stop_low}
+use Rattle.rz_elfw.proofs.Writable.{IsWritable, IsLoadOf, room, loads_above, loads_of, some_load, stop_low}
 
 -- the loads of the original in the new file take as many bytes, and end where they ended
 size_moved : (s : Segment) → (moved s).memsz ≡ s.memsz

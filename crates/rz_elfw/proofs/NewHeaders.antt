@@ -1,15 +1,15 @@
 -- The program headers of the written file are sound: those of the added loads, and those that are kept.
-use Rattle.std.proofs.Common.{◌≡◌, ℕ, zero, suc, drop, ◌+◌, ◌-◌, ◌/◌, ◌%◌, ◌^◌, ◌<◌, ◌≤◌, Bool, true, false, not, ◌&&◌, ◌||◌, if◌then◌else◌, nat_lt, nat_le, ◌==◌, List, [], ◌∷◌, ◌++◌, length, map, min, Option, Some, None, refl, sym, ap, ap₂, ◌∙◌, subst, arith}
-use Rattle.std.specs.Prelude.{count_ones, filter, nat_eq}
+use Rattle.std.proofs.Common.{◌≡◌, ℕ, zero, suc, drop, ◌+◌, ◌-◌, ◌/◌, ◌%◌, ◌<◌, ◌≤◌, Bool, true, false, not, ◌&&◌, ◌||◌, if◌then◌else◌, nat_lt, nat_le, ◌==◌, List, [], ◌∷◌, map, min, Option, Some, None, refl, sym, ap, ap₂, ◌∙◌, subst, arith}
+use Rattle.std.specs.Prelude.{count_ones, filter}
 use Rattle.std.specs.Int.Count.{ones, ones_in, ones_cat}
 use Rattle.std.specs.List.{AllByRecursion}
 use Rattle.std.proofs.lemmas.Bool.Decides.{nat_tests}
 use Rattle.rz_elf.specs.declared.segment.Segment.{Segment}
 use Rattle.rz_elf.specs.declared.placed.Placed.{Placed}
-use Rattle.rz_elf.specs.Elf.{segment_of, segments_of, is_load, is_stack, placed_from, against, is_stack_code, has_other_flags, is_writable_code, is_larger_in_file, leaves_file, is_misaligned, is_far, isnt_above, shares_page, page, last_page}
+use Rattle.rz_elf.specs.Elf.{segment_of, segments_of, is_load, is_stack, placed_from, against, isnt_above, shares_page, page, last_page}
 use Rattle.rz_elf.specs.AddedRange.{page_floor}
 use Rattle.rz_elf.specs.WrittenFile.{moved, without_execute}
-use Rattle.rz_elf.specs.Laws.Sound.{IsSound, IsSoundLoad, sound_load}
+use Rattle.rz_elf.specs.Laws.Sound.{IsSound, sound_load}
 use Rattle.rz_elfw.proofs.Alignment.{aligned_on, lesser_power}
 use Rattle.rz_elfw.proofs.HeaderBytes.{AreBytes, IsEncodable, bytes_on, encodable_read}
 use Rattle.rz_elfw.proofs.Original.{is_kept, kept_of, kept_cons}

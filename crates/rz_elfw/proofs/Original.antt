@@ -1,5 +1,5 @@
 -- The program headers of an accepted file: they stand in it, and each is sound.
-use Rattle.std.proofs.Common.{◌≡◌, ℕ, zero, suc, ◌+◌, ◌-◌, ◌*◌, ◌^◌, ◌<◌, ◌≤◌, Bool, true, false, ◌||◌, if◌then◌else◌, List, [], ◌∷◌, ◌++◌, length, drop, map, Option, Some, None, refl, sym, ap, ap₂, ◌∙◌, subst, arith, append_assoc, append-nil, drop-drop}
+use Rattle.std.proofs.Common.{◌≡◌, ℕ, zero, suc, ◌+◌, ◌-◌, ◌*◌, ◌^◌, ◌<◌, ◌≤◌, Bool, true, false, ◌||◌, if◌then◌else◌, List, [], ◌∷◌, length, drop, map, Option, Some, None, refl, sym, ap, ap₂, ◌∙◌, subst, arith, drop-drop}
 use Rattle.std.specs.Prelude.{filter}
 use Rattle.std.specs.List.{AllByRecursion}
 use Rattle.std.proofs.lemmas.Bool.Decides.{nat_tests}
@@ -8,7 +8,7 @@ use Rattle.rz_elf.specs.declared.placed.Placed.{Placed}
 use Rattle.rz_elf.specs.Elf.{segment_of, segments_of, segments, file_header, is_load, is_stack, placed_from, file_conditions, fault_of}
 use Rattle.rz_elf.specs.WrittenFile.{moved}
 use Rattle.rz_elf.specs.Laws.Conditions.{none_holds}
-use Rattle.rz_elf.specs.Laws.Reading.{file_faultless, headers_faultless, table_fits, few_headers}
+use Rattle.rz_elf.specs.Laws.Reading.{whole_header, file_faultless, headers_faultless, table_fits, few_headers}
 use Rattle.rz_elf.specs.Laws.Sound.{IsSound, sound, sound_load}
 
 -- whether a program header is kept, and what is kept of some
@@ -89,7 +89,7 @@ sound_at len i before (suc n) t (suc k) h lt =
 
 module _ (x : List ℕ) (accepted : fault_of x ≡ None) where
   pub whole : 64 ≤ length x
-  whole = let t = (none_holds (file_conditions x) (sym (file_faultless x accepted))).1.0 in grind (arith, nat_tests, t)
+  whole = whole_header x accepted
 
   pub short : length x ≤ 67108864
   short = let t = (none_holds (file_conditions x) (sym (file_faultless x accepted))).0 in grind (arith, nat_tests, t)

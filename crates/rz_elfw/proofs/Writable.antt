@@ -1,6 +1,6 @@
 -- An original and the parts that it is written with, and what their conditions are in numbers.
-use Rattle.std.proofs.Common.{◌≡◌, ℕ, ◌+◌, ◌-◌, ◌%◌, ◌<◌, ◌≤◌, Bool, true, false, if◌then◌else◌, nat_lt, List, [], ◌∷◌, length, map, Option, Some, None, refl, sym, ap, ◌∙◌, subst, arith}
-use Rattle.std.specs.Prelude.{filter, min, sum_by}
+use Rattle.std.proofs.Common.{◌≡◌, ℕ, ◌+◌, ◌<◌, ◌≤◌, Bool, true, false, if◌then◌else◌, nat_lt, List, [], ◌∷◌, length, map, Option, Some, None, refl, sym, subst, arith}
+use Rattle.std.specs.Prelude.{filter}
 use Rattle.std.specs.List.{AllByRecursion}
 use Rattle.std.proofs.lemmas.Bool.Decides.{nat_tests}
 use Rattle.rz_num.specs.Page.{page_up}
@@ -8,10 +8,10 @@ use Rattle.rz_elf.specs.declared.room.Extent.{Extent}
 use Rattle.rz_elf.specs.declared.room.Room.{Room}
 use Rattle.rz_elf.specs.declared.segment.Segment.{Segment}
 use Rattle.rz_elf.specs.declared.placed.Placed.{Placed}
-use Rattle.rz_elf.specs.Elf.{fault_of, is_load, load_region, loads, image_of, load_conditions, placed, file_header}
+use Rattle.rz_elf.specs.Elf.{fault_of, load_region, loads, image_of, load_conditions, placed, file_header}
 use Rattle.rz_elf.specs.Loaded.{is_load_header}
 use Rattle.rz_elf.specs.AddedRange.{lowest, page_floor}
-use Rattle.rz_elf.specs.WrittenFile.{Parts, kept_segments}
+use Rattle.rz_elf.specs.WrittenFile.{Parts}
 use Rattle.rz_elf.specs.Room.{extent_of, no_room, parts_end, parts_size, ArePages, IsInCode}
 use Rattle.rz_elf.specs.Laws.Conditions.{none_holds}
 use Rattle.rz_elf.specs.Laws.HeaderList.{loads_placed}

@@ -1,8 +1,10 @@
 //! The written file.
 
-ghost use Rattle.std.specs.Prelude.{◌≡◌, IfOk, None};
+ghost use Rattle.std.specs.Prelude.{◌≡◌, IfOk, IsTrue, None};
 ghost use Rattle.rz_elf.specs.Elf.{fault_of, image_of};
+ghost use Rattle.rz_elf.specs.Loaded.{elf_of};
 ghost use Rattle.rz_elf.specs.Room.{ArePages, IsInCode, extent_of, no_room, parts_end, parts_size};
+ghost use Rattle.rz_elf.specs.Stamped.{is_stamped};
 ghost use Rattle.rz_elf.specs.WrittenFile.{new_image, written_file};
 
 use crate::header_page::{PAGE, push_header_page, push_zeros};
@@ -13,7 +15,7 @@ use rz_num::{Bytes, OutOfMemory, page_up};
 use std::alloc::Global;
 
 /// The written file of an original with the added parts and an entry: a header page of 4096 bytes, the original whole,
-/// zeros up to a page, and the bytes of the tables, the code and the stubs. It is an accepted file again. What it loads
+/// zeros up to a page, and the bytes of the tables, the code and the stubs. It is an accepted and stamped file. What it loads
 /// are the original's loads, none of them executable, and the four added ones. It refuses for want of memory alone.
 pub fn write_elf(alloc: Global, elf: &Elf, parts: &Parts, entry: u64) -> Result<Bytes, OutOfMemory>
     requires pages { ArePages parts.now }
@@ -22,6 +24,7 @@ pub fn write_elf(alloc: Global, elf: &Elf, parts: &Parts, entry: u64) -> Result<
     requires room { no_room (extent_of elf.now.bytes) (parts_size parts.now) ≡ None }
     ensures file { IfOk result (λ w. w ≡ written_file elf.now.bytes parts.now entry) }
     ensures accepted { IfOk result (λ w. fault_of w ≡ None) }
+    ensures stamped { IfOk result (λ w. IsTrue (is_stamped (elf_of w))) }
     ensures image { IfOk result (λ w. image_of w ≡ new_image (image_of elf.now.bytes) parts.now entry) }
 {
     let file = elf.bytes.as_slice();

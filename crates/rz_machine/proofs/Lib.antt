@@ -18,3 +18,5 @@ pub mod RunTurns
 pub mod StartRegions
 pub mod StackLaws
 mod StartRows
+pub mod StubLaws
+mod StubRows

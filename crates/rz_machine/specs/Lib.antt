@@ -15,4 +15,5 @@ pub mod LeftCode
 pub mod Traced
 pub mod Ran
 pub mod Recorded
+pub mod Stub
 pub mod Calls

@@ -4,6 +4,7 @@
 pub mod law;
 pub mod machine;
 pub mod start;
+pub mod stub;
 pub mod trace;
 #[cfg(test)]
 mod trace_tests;

@@ -54,14 +54,16 @@ zero_at (suc n) zero = refl
 zero_at (suc n) (suc k) = zero_at n k
 
 -- past the bytes of the file stand zeros
-pub zero_code : (bytes : List ℕ) (l : Load) (k : ℕ) → IsLoad (length bytes) l → executes l.perm ≡ true → l.file_size ≤ k → k < l.size → Some 0 ≡ code_of (cell_in (loaded_region bytes l) k)
-zero_code bytes l k is x le lt =
+pub zero_past : (bytes : List ℕ) (l : Load) (k : ℕ) → IsLoad (length bytes) l → l.file_size ≤ k → get_or (loaded_region bytes l).bytes k 0 ≡ 0
+zero_past bytes l k is le =
     let inside = is.inside in
     let n = length-take-le l.file_size (drop l.file_at bytes) (omega (arith, inside, length-drop l.file_at bytes)) in
-    let byte : get_or (loaded_region bytes l).bytes k 0 ≡ 0 =
-    get_or-append_right (take l.file_size (drop l.file_at bytes)) (zeros (l.size - l.file_size)) l.file_size k 0 n le ∙ zero_at (l.size - l.file_size) (k - l.file_size) in
+    get_or-append_right (take l.file_size (drop l.file_at bytes)) (zeros (l.size - l.file_size)) l.file_size k 0 n le ∙ zero_at (l.size - l.file_size) (k - l.file_size)
+
+pub zero_code : (bytes : List ℕ) (l : Load) (k : ℕ) → IsLoad (length bytes) l → executes l.perm ≡ true → l.file_size ≤ k → k < l.size → Some 0 ≡ code_of (cell_in (loaded_region bytes l) k)
+zero_code bytes l k is x le lt =
     let opened : (nat_lt k l.size && executes l.perm) ≡ true = ap₂ ◌&&◌ (lt-ltb k l.size lt) x in
-    sym (ap (λ b. if b then Some (get_or (loaded_region bytes l).bytes k 0) else None) opened ∙ ap Some byte)
+    sym (ap (λ b. if b then Some (get_or (loaded_region bytes l).bytes k 0) else None) opened ∙ ap Some (zero_past bytes l k is le))
 
 -- a sound load is one
 all_loads : (len : ℕ) (ps : List Placed) → AllByRecursion (IsSoundLoad len) ps → AllByRecursion (IsLoad len) (map load_of ps)

@@ -64,6 +64,10 @@ module _ (x : List ℕ) where
       let ls = load_conditions (file_header x).entry (loads x) in
       first_of_none ls (second_none of_headers ls (second_none of_file (of_headers ++ ls) (none_holds (of_file ++ (of_headers ++ ls)) h)))
 
+  -- the file header is whole
+  pub whole_header : fault_of x ≡ None → 64 ≤ length x
+  whole_header h = let t = (none_holds of_file (sym (file_faultless h))).1.0 in grind (arith, nat_tests, t)
+
   -- the program headers are in the file
   pub table_fits : None ≡ first_of of_file → (file_header x).table_at + 56 * (file_header x).count ≤ length x
   table_fits h = let t = (none_holds of_file (sym h)).1.1.1.1.1.1.1.1.1.1.1.0 in grind (arith, nat_tests, t)

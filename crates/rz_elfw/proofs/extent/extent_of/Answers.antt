@@ -1,10 +1,9 @@
-use Rattle.std.proofs.Common.{◌≡◌, ℕ, ◌^◌, ◌<◌, List, length, map, sym, ap, ◌∙◌, subst, arith}
+use Rattle.std.proofs.Common.{◌≡◌, ◌^◌, ◌<◌, List, length, map, sym, ap, ◌∙◌, subst, arith}
 use Rattle.std.specs.Prelude.{sum_by}
 use Rattle.rz_elf.specs.declared.elf.Load.{Load}
 use Rattle.rz_elf.specs.declared.room.Extent.{Extent}
 use Rattle.rz_elf.specs.AddedRange.{lowest, page_floor}
 use Rattle.rz_elf.specs.Loaded.{ElfFile, IsRead, loaded_region}
-use Rattle.rz_elf.specs.Room.{extent_of}
 use Rattle.rz_elfw.proofs.ExtentLaws.{memory_is, memory_small, floor_is}
 use Rattle.rz_elfw.proofs.extent.extent_of.Goals as goal
 

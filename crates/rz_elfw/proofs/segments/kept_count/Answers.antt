@@ -2,7 +2,7 @@ use Rattle.std.proofs.Common.{◌≡◌, ℕ, ◌+◌, ◌*◌, ◌<◌, ◌≤�
 use Rattle.rz_elf.specs.declared.header.FileHeader.{FileHeader}
 use Rattle.rz_elf.specs.Elf.{fault_of, file_header, segment_of, segments}
 use Rattle.rz_elf.specs.Loaded.{ElfFile}
-use Rattle.rz_elfw.proofs.Original.{is_kept, kept_of, kept_from, kept_end, kept_more, kept_same, few_kept_headers, whole, table_inside}
+use Rattle.rz_elfw.proofs.Original.{kept_of, kept_from, kept_end, kept_more, kept_same, few_kept_headers, whole, table_inside}
 use Rattle.rz_elfw.proofs.segments.kept_count.Goals.{then-is_kept, else-is_kept}
 use Rattle.rz_elfw.proofs.segments.kept_count.Goals as goal
 

@@ -1,4 +1,4 @@
-use Rattle.std.proofs.Common.{◌≡◌, ℕ, ◌+◌, ◌-◌, ◌≤◌, List, [], ◌++◌, length, append_assoc, refl, None, ap, subst, ◌∙◌, arith}
+use Rattle.std.proofs.Common.{◌≡◌, ℕ, ◌-◌, ◌≤◌, List, [], ◌++◌, length, append_assoc, refl, None, ap, subst, ◌∙◌, arith}
 use Rattle.rz_num.specs.Page.{page_up}
 use Rattle.rz_image.specs.Memory.{zeros}
 use Rattle.rz_elf.specs.declared.segment.Segment.{Segment}
@@ -9,6 +9,7 @@ use Rattle.rz_elf.specs.Room.{ArePages, IsInCode, extent_of, no_room, parts_end,
 use Rattle.rz_elfw.proofs.HeaderBytes.{AreBytes}
 use Rattle.rz_elfw.proofs.Writable.{IsWritable, floor_low}
 use Rattle.rz_elfw.proofs.NewFile.{written_accepted, written_image}
+use Rattle.rz_elfw.proofs.StampLaws.{written_stamped}
 use Rattle.rz_elfw.proofs.write.write_elf.Goals as goal
 
 -- one append after the other
@@ -55,8 +56,10 @@ returns c =
     (c.as_slice-code.ensures.value ∙ ap (λ (p : Parts). p.code) c.parts.view_is)
     (c.as_slice-stubs.ensures.value ∙ ap (λ (p : Parts). p.stubs) c.parts.view_is) in
     let can = writable _ c.args.elf.now c.args.parts.now c.args.entry c.elf.inside.bytes c.elf.view_is c.elf.invariant (ap (λ (e : ElfFile). e.bytes) c.elf.view_is) c.as_slice-file.ensures.bytes c.requires.pages c.requires.below c.requires.entry c.requires.room in
+    let image = ap image_of written ∙ written_image x c.args.parts.now c.args.entry can in
     record {
       file = written;
       accepted = ap fault_of written ∙ written_accepted x c.args.parts.now c.args.entry can;
-      image = ap image_of written ∙ written_image x c.args.parts.now c.args.entry can;
+      stamped = written_stamped c.from_vec.result x c.args.parts.now c.args.entry written image;
+      image = image;
     }
