@@ -1,5 +1,5 @@
 -- The command `gen`.
-use Rattle.std.specs.Prelude.{◌≡◌, ℕ, List, [], length, Some}
+use Rattle.std.specs.Prelude.{◌≡◌, [], length, Some}
 use Rattle.rz_gen.specs.Generated.{generated}
 use Rattle.rz_core.specs.Texts.{generated_text}
 use Rattle.rz_core.specs.Words.{Generate}

@@ -81,4 +81,5 @@ refusal_text (status.ReadFault file) = codes "read fault " ++ (file ++ 10 ∷ []
 refusal_text (status.WriteFault target.File) = codes "write fault file\n"
 refusal_text (status.WriteFault target.Text) = []
 refusal_text status.Ok = []
+refusal_text (status.StubStop source) = []
 refusal_text status.OutOfMemory = []

@@ -89,16 +89,33 @@ generate_of (command ∷ count ∷ out ∷ []) =
     if is_generate command out then option_map (λ n. record { count = n; out = out }) (functions_of count) else None
 generate_of _ = None
 
+-- `run EXE LIMIT INPUT`
+pub record Run : Type 0 where
+  pub exe : List ℕ
+  pub limit : ℕ
+  pub input : List ℕ
+
+abbrev pub is_run : List ℕ → List ℕ → List ℕ → Bool
+is_run command exe input = bytes_eq command (codes "run") && is_name exe && is_name input
+
+-- the words of `run`
+abbrev pub run_of : List (List ℕ) → Option Run
+run_of (command ∷ exe ∷ limit ∷ input ∷ []) =
+    if is_run command exe input then option_map (λ n. record { exe = exe; limit = n; input = input }) (limit_of limit) else None
+run_of _ = None
+
 -- the forms
 pub data Form : Type 0 where
   Debloating : Debloat → Form
   Checking : Check → Form
   Disassembling : Disasm → Form
   Generating : Generate → Form
+  Running : Run → Form
 
 -- the form that the words have, if any
 abbrev pub form_of : List (List ℕ) → Option Form
 form_of words =
     option_or (option_map Debloating (debloat_of words))
     (option_or (option_map Checking (check_of words))
-    (option_or (option_map Disassembling (disasm_of words)) (option_map Generating (generate_of words))))
+    (option_or (option_map Disassembling (disasm_of words))
+    (option_or (option_map Generating (generate_of words)) (option_map Running (run_of words)))))

@@ -8,6 +8,7 @@ mod disasm;
 mod generate;
 pub mod making;
 pub mod reading;
+mod run;
 pub mod status;
 pub mod texts;
 pub mod tool;

@@ -106,8 +106,9 @@ pub fn refusal(alloc: Global, status: &Status) -> Result<String, AllocError>
             format!(in alloc; "read fault {file}\n")
         }
         Status::WriteFault(Target::File) => format!(in alloc; "write fault file\n"),
-        Status::WriteFault(Target::Text) | Status::Ok | Status::OutOfMemory => {
-            format!(in alloc; "")
-        }
+        Status::WriteFault(Target::Text)
+        | Status::Ok
+        | Status::StubStop { .. }
+        | Status::OutOfMemory => format!(in alloc; ""),
     }
 }

@@ -16,6 +16,7 @@ use crate::check::check;
 use crate::debloat::debloat;
 use crate::disasm::disasm;
 use crate::generate::generate;
+use crate::run::run;
 use crate::status::{Status, Target};
 use crate::texts::refusal;
 use crate::words::{Form, read_form};
@@ -71,6 +72,7 @@ fn carry_out<S: Store>(alloc: Global, form: &Form<'_>, store: &mut S) -> Result<
         Form::Check(c) => check(alloc, c, store),
         Form::Disasm(d) => disasm(alloc, d, store),
         Form::Generate(g) => generate(alloc, g, store),
+        Form::Run(r) => run(alloc, r, store),
     }
 }
 

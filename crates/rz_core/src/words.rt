@@ -2,8 +2,8 @@
 
 ghost use Rattle.std.specs.Prelude.{◌≡◌, ◌≤◌, MatchOption, IfSome, Some, None};
 ghost use Rattle.rz_text.specs.Number.{decimal as decimal_number};
-ghost use Rattle.rz_core.specs.Words.{form_of, debloat_of, check_of, disasm_of, generate_of, count_of, address_of, functions_of, is_check as is_check_of, is_disasm as is_disasm_of, is_generate as is_generate_of, is_name as is_name_of, is_debloat as is_debloat_of, number_within as number_within_of, limit_of};
-ghost use Rattle.rz_core.specs.Calls.Held.{debloat_words, check_words, disasm_words, generate_words, form_words, HasSteps, HasFunctions, IsInRange};
+ghost use Rattle.rz_core.specs.Words.{form_of, debloat_of, check_of, disasm_of, generate_of, run_of, count_of, address_of, functions_of, is_check as is_check_of, is_disasm as is_disasm_of, is_generate as is_generate_of, is_run as is_run_of, is_name as is_name_of, is_debloat as is_debloat_of, number_within as number_within_of, limit_of};
+ghost use Rattle.rz_core.specs.Calls.Held.{debloat_words, check_words, disasm_words, generate_words, run_words, form_words, HasSteps, HasFunctions, IsInRange};
 
 use rz_num::Text;
 use rz_text::{decimal, hexadecimal};
@@ -42,6 +42,15 @@ pub struct Generate<'a> {
     pub out: &'a Text,
 }
 
+/// `run EXE LIMIT INPUT`.
+#[derive(Drop)]
+pub struct Run<'a> {
+    pub exe: &'a Text,
+    /// In steps.
+    pub limit: u64,
+    pub input: &'a Text,
+}
+
 /// The forms of the command line.
 #[derive(Drop)]
 pub enum Form<'a> {
@@ -49,6 +58,7 @@ pub enum Form<'a> {
     Check(Check<'a>),
     Disasm(Disasm<'a>),
     Generate(Generate<'a>),
+    Run(Run<'a>),
 }
 
 /// The form that the words have, if any.
@@ -66,8 +76,11 @@ pub fn read_form(words: &Vec<Text>) -> Option<Form<'_>>
     if let Some(disasm) = disasm_form(words) {
         return Some(Form::Disasm(disasm));
     }
-    match generate_form(words) {
-        Some(generate) => Some(Form::Generate(generate)),
+    if let Some(generate) = generate_form(words) {
+        return Some(Form::Generate(generate));
+    }
+    match run_form(words) {
+        Some(run) => Some(Form::Run(run)),
         None => None,
     }
 }
@@ -164,6 +177,25 @@ fn is_generate(command: &Text, out: &Text) -> bool
     ensures { result ≡ is_generate_of command.now out.now }
 {
     command.as_slice() == "gen" && is_name(out)
+}
+
+fn run_form(words: &Vec<Text>) -> Option<Run<'_>>
+    ensures { MatchOption result (run_of words.now.items ≡ None)
+        (λ r. run_of words.now.items ≡ Some (run_words r)) }
+{
+    match words.as_slice() {
+        [command, exe, limit, input] if is_run(command, exe, input) => {
+            let limit = steps(limit)?;
+            Some(Run { exe, limit, input })
+        }
+        _ => None,
+    }
+}
+
+fn is_run(command: &Text, exe: &Text, input: &Text) -> bool
+    ensures { result ≡ is_run_of command.now exe.now input.now }
+{
+    command.as_slice() == "run" && is_name(exe) && is_name(input)
 }
 
 fn is_name(word: &Text) -> bool

@@ -11,7 +11,12 @@ use rz_outside::{Store, WriteErr};
 use std::alloc::Global;
 
 /// Writes the bytes to the file of a name, or gives the refusal.
-pub fn write<S: Store>(alloc: Global, store: &mut S, name: &Text, bytes: &Bytes) -> Result<(), Status>
+pub fn write<S: Store>(
+    alloc: Global,
+    store: &mut S,
+    name: &Text,
+    bytes: &Bytes,
+) -> Result<(), Status>
     ensures telling { S.told store.new ≡ S.told store.old }
     ensures others { SameOthers name.now (S.files store.old) (S.files store.new) }
     ensures count { S.faults store.old ≤ S.faults store.new }

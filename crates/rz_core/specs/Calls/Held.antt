@@ -4,13 +4,15 @@ use Rattle.rz_core.specs.declared.words.Debloat.{Debloat as HeldDebloat}
 use Rattle.rz_core.specs.declared.words.Check.{Check as HeldCheck}
 use Rattle.rz_core.specs.declared.words.Disasm.{Disasm as HeldDisasm}
 use Rattle.rz_core.specs.declared.words.Generate.{Generate as HeldGenerate}
+use Rattle.rz_core.specs.declared.words.Run.{Run as HeldRun}
 use Rattle.rz_core.specs.declared.words.Form.{Form as HeldForm}
 use Rattle.rz_core.specs.declared.words.Form.TheVariants as held
-use Rattle.rz_core.specs.Words.{Debloat, Check, Disasm, Generate, Form, Debloating, Checking, Disassembling, Generating}
+use Rattle.rz_core.specs.Words.{Debloat, Check, Disasm, Generate, Run, Form, Debloating, Checking, Disassembling, Generating, Running}
 use Rattle.rz_core.specs.Command.{Command}
 use Rattle.rz_core.specs.Checked.{check_command}
 use Rattle.rz_core.specs.Debloated.{debloat_command}
 use Rattle.rz_core.specs.Listed.{disasm_command}
+use Rattle.rz_core.specs.Ran.{run_command}
 use Rattle.rz_core.specs.Generated.{generate_command}
 
 abbrev pub debloat_words : HeldDebloat → Debloat
@@ -25,11 +27,15 @@ disasm_words d = record { exe = d.exe.now; at = d.at; count = d.count }
 abbrev pub generate_words : HeldGenerate → Generate
 generate_words g = record { count = g.count; out = g.out.now }
 
+abbrev pub run_words : HeldRun → Run
+run_words r = record { exe = r.exe.now; limit = r.limit; input = r.input.now }
+
 abbrev pub form_words : HeldForm → Form
 form_words (held.Debloat d) = Debloating (debloat_words d)
 form_words (held.Check c) = Checking (check_words c)
 form_words (held.Disasm d) = Disassembling (disasm_words d)
 form_words (held.Generate g) = Generating (generate_words g)
+form_words (held.Run r) = Running (run_words r)
 
 -- a debloating traces at least one step
 abbrev pub HasSteps : HeldDebloat → Type 0
@@ -45,6 +51,7 @@ IsInRange (held.Debloat d) = HasSteps d
 IsInRange (held.Check c) = Unit {0}
 IsInRange (held.Disasm d) = Unit {0}
 IsInRange (held.Generate g) = HasFunctions g
+IsInRange (held.Run r) = Unit {0}
 
 -- their commands
 abbrev pub debloating : HeldDebloat → Command
@@ -58,3 +65,6 @@ disassembling d = disasm_command (disasm_words d)
 
 abbrev pub generating : HeldGenerate → Command
 generating g = generate_command (generate_words g)
+
+abbrev pub running : HeldRun → Command
+running r = run_command (run_words r)
