@@ -16,7 +16,7 @@ use Rattle.rz_core.specs.Texts.{refusal_text}
 use Rattle.rz_core.specs.Reading.{Wanted, HoldAll, ReadRefusal, FileRefusal}
 use Rattle.rz_core.specs.Command.{Command}
 use Rattle.rz_core.specs.Causes.{IsDone, IsDoneWith, IsNew, WriteFails, LastRefusalOf, LastRefusal, LastAnswerOf, LastAnswer, CauseIn, OthersStay, FilesAfterOut, FilesAfterIn, GotText, GotRefusal, SinkAfterOf, SinkAfterIn}
-use Rattle.rz_core.specs.Calls.Carried.{IsRefusal, IsUnread, WriteRefusal}
+use Rattle.rz_core.specs.Calls.Carried.{IsRefusal, IsUnread, IsCarriedOut, WriteRefusal}
 use Rattle.rz_core.specs.Calls.Making.{IsMade, IsUnmade, EndRefusalOf, EndRefusal}
 use Rattle.rz_core.specs.Calls.Putting.{PutAfter, RefusedAfter}
 use Rattle.rz_core.specs.Causes.{EndsWith}
@@ -204,3 +204,7 @@ module _ (c : Command) (s : StoreCalls) (contents : List (List ℕ)) (read : Hol
 -- a file that a command reads is refused
 pub unread_unmade : (c : Command) (s : StoreCalls) (st : Status) → IsUnread c.reads s st → IsUnmade c s st
 unread_unmade c s st h = course_map c.reads s _ (EndRefusal (EndsWith c s)) st (λ none. absurd none) h
+
+-- a command that writes no file, refused for one that it reads
+pub unread_carried : (c : Command) (s : StoreCalls) (st : Status) → IsUnread c.reads s st → SameFiles s.old s.new → IsCarriedOut c s (Err st)
+unread_carried c s st h same = let refusal = unmade_refusal c s st (unread_unmade c s st h) in (refusal_files c s st refusal same, refusal)

@@ -10,11 +10,12 @@ use Rattle.rz_input.specs.Value.{input_of}
 use Rattle.rz_core.specs.declared.status.Status.{Status}
 use Rattle.rz_core.specs.declared.status.Status.TheVariants as status
 use Rattle.rz_core.specs.Decoding.{decode_early}
-use Rattle.rz_core.specs.Words.{Debloat, Form, Debloating, Checking}
+use Rattle.rz_core.specs.Words.{Debloat, Run, Form, Debloating, Checking, Disassembling, Generating, Running}
 use Rattle.rz_core.specs.Inputs.{HoldInputs}
 use Rattle.rz_core.specs.Reading.{wanted_inputs, wanted_program, HoldAll}
 use Rattle.rz_core.specs.Debloated.{traced, AllStay, LeavesFirst, rip_reach_of, no_room_of, IsDebloatedBy, DebloatEnds, debloat_command}
-use Rattle.rz_core.specs.Checked.{CheckEnds}
+use Rattle.rz_core.specs.Command.{EndsWell}
+use Rattle.rz_core.specs.Ran.{stop_of, RunEnds, run_command}
 use Rattle.rz_core.specs.Commands.{command_of}
 use Rattle.rz_core.specs.Causes.{CauseOf, LastAnswer}
 use Rattle.rz_core.specs.Exact.{IsExactOf}
@@ -65,15 +66,33 @@ debloats_once : (d : Debloat) → EndsOnce (debloat_command d)
 debloats_once d [] st other g h = absurd g
 debloats_once d (x ∷ texts) st other g h = debloat_once d.limit x (map input_of texts) st other g h
 
-check_once : (st other : Status) → CheckEnds st → CheckEnds other → st ≡ other
-check_once status.Ok status.Ok g h = refl
-check_once status.Ok _ g h = absurd h
-check_once _ other g h = absurd g
+well_once : (st other : Status) → EndsWell st → EndsWell other → st ≡ other
+well_once status.Ok status.Ok g h = refl
+well_once status.Ok _ g h = absurd h
+well_once _ other g h = absurd g
+
+run_once : (limit : ℕ) (x : List ℕ) (input : Input) (st other : Status) → RunEnds limit x input st → RunEnds limit x input other → st ≡ other
+run_once limit x input status.Ok status.Ok g h = refl
+run_once limit x input status.Ok (status.StubStop b) g h = absurd (not_both (stop_of limit x input) b h g)
+run_once limit x input status.Ok _ g h = absurd h
+run_once limit x input (status.StubStop a) status.Ok g h = absurd (not_both (stop_of limit x input) a g h)
+run_once limit x input (status.StubStop a) (status.StubStop b) g h = ap (λ n. status.StubStop n) (one_value (stop_of limit x input) a b g h)
+run_once limit x input (status.StubStop a) _ g h = absurd h
+run_once limit x input _ other g h = absurd g
+
+runs_once : (r : Run) → EndsOnce (run_command r)
+runs_once r [] st other g h = absurd g
+runs_once r (x ∷ []) st other g h = absurd g
+runs_once r (x ∷ text ∷ []) st other g h = run_once r.limit x (input_of text) st other g h
+runs_once r (x ∷ text ∷ more ∷ rest) st other g h = absurd g
 
 -- each command ends in one way
 ends_once : (form : Form) → EndsOnce (command_of form)
 ends_once (Debloating d) = debloats_once d
-ends_once (Checking c) = λ contents. check_once
+ends_once (Checking c) = λ contents. well_once
+ends_once (Disassembling d) = λ contents. well_once
+ends_once (Generating g) = λ contents. well_once
+ends_once (Running r) = runs_once r
 
 pub form_exactly : (form : Form) (s : StoreCalls) (k : SinkCalls) (answer : Status) → CauseOf (Some form) s k answer → IsExactOf (Some form) s k answer
 form_exactly form s k answer h quiet = exactly (command_of form) (ends_once form) s k answer quiet h
@@ -106,3 +125,6 @@ headline (Debloating d) s k status.Ok h = λ told.
     held_headline d s done.contents done.written.0 told done.read done.written.1 (done.written.2 told)
 headline (Debloating d) s k _ h = tt
 headline (Checking c) s k answer h = tt
+headline (Disassembling d) s k answer h = tt
+headline (Generating g) s k answer h = tt
+headline (Running r) s k answer h = tt

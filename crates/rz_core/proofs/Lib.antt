@@ -5,3 +5,4 @@ pub mod ExactLaws
 pub mod EndLaws
 pub mod MadeLaws
 pub mod DebloatLaws
+pub mod RunLaws

@@ -1,5 +1,6 @@
 pub mod Held
 pub mod Programs
 pub mod Making
+pub mod Running
 pub mod Carried
 pub mod Putting

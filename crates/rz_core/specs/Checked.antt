@@ -1,20 +1,14 @@
 -- The command `check`.
 use Rattle.std.specs.Prelude.{ℕ, List, [], ◌∷◌, length, None}
 use Rattle.rz_elf.specs.Elf.{image_of}
-use Rattle.rz_core.specs.declared.status.Status.{Status}
-use Rattle.rz_core.specs.declared.status.Status.TheVariants as status
 use Rattle.rz_core.specs.Texts.{check_text}
 use Rattle.rz_core.specs.Words.{Check}
 use Rattle.rz_core.specs.Reading.{Accepted, wanted}
-use Rattle.rz_core.specs.Command.{Command}
+use Rattle.rz_core.specs.Command.{Command, EndsWell}
 
 -- what is said of an accepted file
 abbrev pub checked_text : List ℕ → List ℕ
 checked_text x = let i = image_of x in check_text (length i.loads) i.entry i.first_break
-
-abbrev pub CheckEnds : Status → Type 0
-CheckEnds status.Ok = Unit {0}
-CheckEnds _ = ⊥
 
 abbrev checked : List (List ℕ) → List ℕ
 checked (x ∷ []) = checked_text x
@@ -24,7 +18,7 @@ abbrev pub check_command : Check → Command
 check_command c =
     record {
       reads = wanted c.exe Accepted ∷ [];
-      Ends = λ contents answer. CheckEnds answer;
+      Ends = λ contents answer. EndsWell answer;
       text = checked;
       out = None;
       New = λ contents w. ⊥;

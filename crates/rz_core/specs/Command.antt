@@ -1,6 +1,7 @@
 -- What a command is.
 use Rattle.std.specs.Prelude.{ℕ, List, Option}
 use Rattle.rz_core.specs.declared.status.Status.{Status}
+use Rattle.rz_core.specs.declared.status.Status.TheVariants as status
 use Rattle.rz_core.specs.Reading.{Wanted}
 
 -- Its order and its causes follow from these alone (`Causes`, `Exact`). Contents are those of the files that it reads, in order.
@@ -15,3 +16,8 @@ pub record Command : Type 1 where
   pub out : Option (List ℕ)
   -- what it may write there
   pub New : List (List ℕ) → List ℕ → Type 0
+
+-- the end of a command that is done whatever its files hold
+abbrev pub EndsWell : Status → Type 0
+EndsWell status.Ok = Unit {0}
+EndsWell _ = ⊥

@@ -13,4 +13,5 @@ number_of (status.RipReach address) = 6
 number_of (status.NoRoom room) = 7
 number_of (status.ReadFault file) = 8
 number_of (status.WriteFault target) = 9
+number_of (status.StubStop source) = 11
 number_of status.OutOfMemory = 12

@@ -27,6 +27,10 @@ abbrev pub check_text : ℕ → ℕ → ℕ → List ℕ
 check_text loads entry first_break =
     codes "ok loads " ++ (decimal loads ++ (codes " entry " ++ (hex_text entry ++ (codes " break " ++ (hex_text first_break ++ codes "\n")))))
 
+-- what is said of a generated file: how many bytes it has
+abbrev pub generated_text : ℕ → List ℕ
+generated_text len = codes "generated " ++ (decimal len ++ codes "\n")
+
 abbrev numbered : List ℕ → ℕ → List ℕ
 numbered name i = name ++ (32 ∷ decimal i)
 
@@ -77,4 +81,5 @@ refusal_text (status.ReadFault file) = codes "read fault " ++ (file ++ 10 ∷ []
 refusal_text (status.WriteFault target.File) = codes "write fault file\n"
 refusal_text (status.WriteFault target.Text) = []
 refusal_text status.Ok = []
+refusal_text (status.StubStop source) = []
 refusal_text status.OutOfMemory = []

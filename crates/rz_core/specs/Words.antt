@@ -1,7 +1,8 @@
 -- The forms of the command line, as lists of words.
-use Rattle.std.specs.Prelude.{ℕ, Bool, ◌&&◌, if◌then◌else◌, nat_le, List, [], ◌∷◌, length, codes, bytes_eq, Option, Some, None, option_map, Result, Ok, Err}
+use Rattle.std.specs.Prelude.{ℕ, Bool, ◌&&◌, if◌then◌else◌, nat_le, List, [], ◌∷◌, length, codes, bytes_eq, Option, Some, None, option_map, option_and_then, Result, Ok, Err}
 use Rattle.std.specs.Option.{option_or}
-use Rattle.rz_text.specs.Number.{decimal}
+use Rattle.std.specs.Result.{result_ok}
+use Rattle.rz_text.specs.Number.{decimal, hexadecimal}
 
 -- a number from the least to the greatest one
 abbrev pub number_within : ℕ → ℕ → Result ℕ ℕ → Option ℕ
@@ -47,11 +48,74 @@ abbrev pub check_of : List (List ℕ) → Option Check
 check_of (command ∷ exe ∷ []) = if is_check command exe then Some (record { exe = exe }) else None
 check_of _ = None
 
+-- `disasm EXE ADDR COUNT`: at most COUNT lines, 1 to 100,000, from an address on
+pub record Disasm : Type 0 where
+  pub exe : List ℕ
+  pub at : ℕ
+  pub count : ℕ
+
+abbrev pub is_disasm : List ℕ → List ℕ → Bool
+is_disasm command exe = bytes_eq command (codes "disasm") && is_name exe
+
+abbrev pub count_of : List ℕ → Option ℕ
+count_of word = number_within 1 100000 (decimal word)
+
+-- an address, in hexadecimal
+abbrev pub address_of : List ℕ → Option ℕ
+address_of word = result_ok (hexadecimal word)
+
+-- the words of `disasm`
+abbrev pub disasm_of : List (List ℕ) → Option Disasm
+disasm_of (command ∷ exe ∷ at ∷ count ∷ []) =
+    if is_disasm command exe
+    then option_and_then (λ a. option_map (λ n. record { exe = exe; at = a; count = n }) (count_of count)) (address_of at)
+    else None
+disasm_of _ = None
+
+-- `gen N OUT`: a program of N functions, 1 to 4000
+pub record Generate : Type 0 where
+  pub count : ℕ
+  pub out : List ℕ
+
+abbrev pub is_generate : List ℕ → List ℕ → Bool
+is_generate command out = bytes_eq command (codes "gen") && is_name out
+
+abbrev pub functions_of : List ℕ → Option ℕ
+functions_of word = number_within 1 4000 (decimal word)
+
+-- the words of `gen`
+abbrev pub generate_of : List (List ℕ) → Option Generate
+generate_of (command ∷ count ∷ out ∷ []) =
+    if is_generate command out then option_map (λ n. record { count = n; out = out }) (functions_of count) else None
+generate_of _ = None
+
+-- `run EXE LIMIT INPUT`
+pub record Run : Type 0 where
+  pub exe : List ℕ
+  pub limit : ℕ
+  pub input : List ℕ
+
+abbrev pub is_run : List ℕ → List ℕ → List ℕ → Bool
+is_run command exe input = bytes_eq command (codes "run") && is_name exe && is_name input
+
+-- the words of `run`
+abbrev pub run_of : List (List ℕ) → Option Run
+run_of (command ∷ exe ∷ limit ∷ input ∷ []) =
+    if is_run command exe input then option_map (λ n. record { exe = exe; limit = n; input = input }) (limit_of limit) else None
+run_of _ = None
+
 -- the forms
 pub data Form : Type 0 where
   Debloating : Debloat → Form
   Checking : Check → Form
+  Disassembling : Disasm → Form
+  Generating : Generate → Form
+  Running : Run → Form
 
 -- the form that the words have, if any
 abbrev pub form_of : List (List ℕ) → Option Form
-form_of words = option_or (option_map Debloating (debloat_of words)) (option_map Checking (check_of words))
+form_of words =
+    option_or (option_map Debloating (debloat_of words))
+    (option_or (option_map Checking (check_of words))
+    (option_or (option_map Disassembling (disasm_of words))
+    (option_or (option_map Generating (generate_of words)) (option_map Running (run_of words)))))

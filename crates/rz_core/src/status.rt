@@ -36,6 +36,8 @@ pub enum Status {
     /// A file could not be read.
     ReadFault { file: Text },
     WriteFault(Target),
+    /// The run of a file ended at the stub that names this address.
+    StubStop { source: u64 },
     OutOfMemory,
 }
 
@@ -53,6 +55,7 @@ pub fn number(status: &Status) -> u8
         Status::NoRoom(_) => 7,
         Status::ReadFault { .. } => 8,
         Status::WriteFault(_) => 9,
+        Status::StubStop { .. } => 11,
         Status::OutOfMemory => 12,
     }
 }

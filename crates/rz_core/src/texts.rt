@@ -1,7 +1,7 @@
 //! The texts that the tool puts.
 
 ghost use Rattle.std.specs.Prelude.{◌≡◌, string_bytes, IfOk};
-ghost use Rattle.rz_core.specs.Texts.{report_text, check_text, fault_text as text_of_fault, refusal_text as text_of_refusal, room_text as text_of_room};
+ghost use Rattle.rz_core.specs.Texts.{report_text, check_text, generated_text, fault_text as text_of_fault, refusal_text as text_of_refusal, room_text as text_of_room};
 
 use crate::status::{Status, Target};
 use rz_elf::fault::ElfFault;
@@ -29,6 +29,13 @@ pub fn check(alloc: Global, loads: u64, entry: u64, first_break: u64) -> Result<
     ensures { IfOk result (λ s. string_bytes s ≡ check_text loads entry first_break) }
 {
     format!(in alloc; "ok loads {loads} entry 0x{entry:x} break 0x{first_break:x}\n")
+}
+
+/// What is said of a generated file of so many bytes.
+pub fn generated(alloc: Global, len: u64) -> Result<String, AllocError>
+    ensures { IfOk result (λ s. string_bytes s ≡ generated_text len) }
+{
+    format!(in alloc; "generated {len}\n")
 }
 
 fn fault_text(alloc: Global, fault: ElfFault) -> Result<String, AllocError>
@@ -99,8 +106,9 @@ pub fn refusal(alloc: Global, status: &Status) -> Result<String, AllocError>
             format!(in alloc; "read fault {file}\n")
         }
         Status::WriteFault(Target::File) => format!(in alloc; "write fault file\n"),
-        Status::WriteFault(Target::Text) | Status::Ok | Status::OutOfMemory => {
-            format!(in alloc; "")
-        }
+        Status::WriteFault(Target::Text)
+        | Status::Ok
+        | Status::StubStop { .. }
+        | Status::OutOfMemory => format!(in alloc; ""),
     }
 }

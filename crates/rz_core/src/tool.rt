@@ -7,13 +7,16 @@ ghost use Rattle.rz_core.specs.Commands.{command_of};
 ghost use Rattle.rz_core.specs.Causes.{HasCause, FilesAfter, SinkAfter};
 ghost use Rattle.rz_core.specs.Exact.{IsExact};
 ghost use Rattle.rz_core.specs.Headline.{Headline};
-ghost use Rattle.rz_core.specs.Calls.Held.{form_words, HasSteps};
+ghost use Rattle.rz_core.specs.Calls.Held.{form_words, IsInRange};
 ghost use Rattle.rz_core.specs.Calls.Carried.{IsCarriedOut};
 ghost use Rattle.rz_core.specs.Calls.Putting.{PutAfter, RefusedAfter, Runs};
 
 use crate::answer::Answer;
 use crate::check::check;
 use crate::debloat::debloat;
+use crate::disasm::disasm;
+use crate::generate::generate;
+use crate::run::run;
 use crate::status::{Status, Target};
 use crate::texts::refusal;
 use crate::words::{Form, read_form};
@@ -58,7 +61,7 @@ fn refuse<K: Sink>(alloc: Global, out: &mut K, status: Status) -> Status
 
 // Carries out the command of a form, up to its text.
 fn carry_out<S: Store>(alloc: Global, form: &Form<'_>, store: &mut S) -> Result<Answer, Status>
-    requires { HasSteps form.now }
+    requires { IsInRange form.now }
     ensures telling { S.told store.new ≡ S.told store.old }
     ensures count { S.faults store.old ≤ S.faults store.new }
     ensures carried { IsCarriedOut (command_of (form_words form.now))
@@ -67,12 +70,15 @@ fn carry_out<S: Store>(alloc: Global, form: &Form<'_>, store: &mut S) -> Result<
     match form {
         Form::Debloat(d) => debloat(alloc, d, store),
         Form::Check(c) => check(alloc, c, store),
+        Form::Disasm(d) => disasm(alloc, d, store),
+        Form::Generate(g) => generate(alloc, g, store),
+        Form::Run(r) => run(alloc, r, store),
     }
 }
 
 // Runs the command of a form.
 fn run_form<S: Store, K: Sink>(alloc: Global, form: &Form<'_>, store: &mut S, out: &mut K) -> Status
-    requires { HasSteps form.now }
+    requires { IsInRange form.now }
     ensures telling { S.told store.new ≡ S.told store.old }
     ensures store_count { S.faults store.old ≤ S.faults store.new }
     ensures sink_telling { IsSome (K.written out.new) ↔ IsSome (K.written out.old) }

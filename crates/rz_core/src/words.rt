@@ -2,11 +2,11 @@
 
 ghost use Rattle.std.specs.Prelude.{◌≡◌, ◌≤◌, MatchOption, IfSome, Some, None};
 ghost use Rattle.rz_text.specs.Number.{decimal as decimal_number};
-ghost use Rattle.rz_core.specs.Words.{form_of, debloat_of, check_of, is_check as is_check_of, is_name as is_name_of, is_debloat as is_debloat_of, number_within as number_within_of, limit_of};
-ghost use Rattle.rz_core.specs.Calls.Held.{debloat_words, check_words, form_words, HasSteps};
+ghost use Rattle.rz_core.specs.Words.{form_of, debloat_of, check_of, disasm_of, generate_of, run_of, count_of, address_of, functions_of, is_check as is_check_of, is_disasm as is_disasm_of, is_generate as is_generate_of, is_run as is_run_of, is_name as is_name_of, is_debloat as is_debloat_of, number_within as number_within_of, limit_of};
+ghost use Rattle.rz_core.specs.Calls.Held.{debloat_words, check_words, disasm_words, generate_words, run_words, form_words, HasSteps, HasFunctions, IsInRange};
 
 use rz_num::Text;
-use rz_text::decimal;
+use rz_text::{decimal, hexadecimal};
 
 /// `debloat EXE - exact LIMIT OUT INPUT`.
 #[derive(Drop)]
@@ -24,24 +24,63 @@ pub struct Check<'a> {
     pub exe: &'a Text,
 }
 
+/// `disasm EXE ADDR COUNT`.
+#[derive(Drop)]
+pub struct Disasm<'a> {
+    pub exe: &'a Text,
+    /// The address of the first line.
+    pub at: u64,
+    /// In lines.
+    pub count: u32,
+}
+
+/// `gen N OUT`.
+#[derive(Drop)]
+pub struct Generate<'a> {
+    /// In functions.
+    pub count: u32,
+    pub out: &'a Text,
+}
+
+/// `run EXE LIMIT INPUT`.
+#[derive(Drop)]
+pub struct Run<'a> {
+    pub exe: &'a Text,
+    /// In steps.
+    pub limit: u64,
+    pub input: &'a Text,
+}
+
 /// The forms of the command line.
 #[derive(Drop)]
 pub enum Form<'a> {
     Debloat(Debloat<'a>),
     Check(Check<'a>),
+    Disasm(Disasm<'a>),
+    Generate(Generate<'a>),
+    Run(Run<'a>),
 }
 
 /// The form that the words have, if any.
 pub fn read_form(words: &Vec<Text>) -> Option<Form<'_>>
     ensures form { MatchOption result (form_of words.now.items ≡ None)
         (λ f. form_of words.now.items ≡ Some (form_words f)) }
-    ensures some { IfSome result HasSteps }
+    ensures range { IfSome result IsInRange }
 {
     if let Some(debloat) = debloat_form(words) {
         return Some(Form::Debloat(debloat));
     }
-    match check_form(words) {
-        Some(check) => Some(Form::Check(check)),
+    if let Some(check) = check_form(words) {
+        return Some(Form::Check(check));
+    }
+    if let Some(disasm) = disasm_form(words) {
+        return Some(Form::Disasm(disasm));
+    }
+    if let Some(generate) = generate_form(words) {
+        return Some(Form::Generate(generate));
+    }
+    match run_form(words) {
+        Some(run) => Some(Form::Run(run)),
         None => None,
     }
 }
@@ -65,7 +104,7 @@ fn is_check(command: &Text, exe: &Text) -> bool
 fn debloat_form(words: &Vec<Text>) -> Option<Debloat<'_>>
     ensures form { MatchOption result (debloat_of words.now.items ≡ None)
         (λ d. debloat_of words.now.items ≡ Some (debloat_words d)) }
-    ensures some { IfSome result (λ d. 1 ≤ d.limit) }
+    ensures steps { IfSome result HasSteps }
 {
     match words.as_slice() {
         [command, exe, classes, level, limit, out, input]
@@ -100,6 +139,65 @@ fn is_debloat(
         && is_name(input)
 }
 
+fn disasm_form(words: &Vec<Text>) -> Option<Disasm<'_>>
+    ensures { MatchOption result (disasm_of words.now.items ≡ None)
+        (λ d. disasm_of words.now.items ≡ Some (disasm_words d)) }
+{
+    match words.as_slice() {
+        [command, exe, at, count] if is_disasm(command, exe) => {
+            let at = address(at)?;
+            let count = lines(count)?;
+            Some(Disasm { exe, at, count })
+        }
+        _ => None,
+    }
+}
+
+fn is_disasm(command: &Text, exe: &Text) -> bool
+    ensures { result ≡ is_disasm_of command.now exe.now }
+{
+    command.as_slice() == "disasm" && is_name(exe)
+}
+
+fn generate_form(words: &Vec<Text>) -> Option<Generate<'_>>
+    ensures form { MatchOption result (generate_of words.now.items ≡ None)
+        (λ g. generate_of words.now.items ≡ Some (generate_words g)) }
+    ensures functions { IfSome result HasFunctions }
+{
+    match words.as_slice() {
+        [command, count, out] if is_generate(command, out) => {
+            let count = functions(count)?;
+            Some(Generate { count, out })
+        }
+        _ => None,
+    }
+}
+
+fn is_generate(command: &Text, out: &Text) -> bool
+    ensures { result ≡ is_generate_of command.now out.now }
+{
+    command.as_slice() == "gen" && is_name(out)
+}
+
+fn run_form(words: &Vec<Text>) -> Option<Run<'_>>
+    ensures { MatchOption result (run_of words.now.items ≡ None)
+        (λ r. run_of words.now.items ≡ Some (run_words r)) }
+{
+    match words.as_slice() {
+        [command, exe, limit, input] if is_run(command, exe, input) => {
+            let limit = steps(limit)?;
+            Some(Run { exe, limit, input })
+        }
+        _ => None,
+    }
+}
+
+fn is_run(command: &Text, exe: &Text, input: &Text) -> bool
+    ensures { result ≡ is_run_of command.now exe.now input.now }
+{
+    command.as_slice() == "run" && is_name(exe) && is_name(input)
+}
+
 fn is_name(word: &Text) -> bool
     ensures { result ≡ is_name_of word.now }
 {
@@ -114,10 +212,33 @@ fn steps(word: &Text) -> Option<u64>
     number_within(word, 1, 1_000_000_000)
 }
 
+// How many lines are listed.
+fn lines(word: &Text) -> Option<u32>
+    ensures { result ≡ count_of word.now }
+{
+    let count = number_within(word, 1, 100_000)?;
+    Some(count as u32)
+}
+
+// How many functions a generated program has.
+fn functions(word: &Text) -> Option<u32>
+    ensures functions { result ≡ functions_of word.now }
+    ensures within { IfSome result (λ n. (1 ≤ n) × (n ≤ 4000)) }
+{
+    let count = number_within(word, 1, 4000)?;
+    Some(count as u32)
+}
+
+fn address(word: &Text) -> Option<u64>
+    ensures { result ≡ address_of word.now }
+{
+    hexadecimal(word.as_slice().as_bytes()).ok()
+}
+
 // A decimal number from the least to the greatest one.
 fn number_within(word: &Text, least: u64, greatest: u64) -> Option<u64>
     ensures number { result ≡ number_within_of least greatest (decimal_number word.now) }
-    ensures some { IfSome result (λ n. least ≤ n) }
+    ensures within { IfSome result (λ n. (least ≤ n) × (n ≤ greatest)) }
 {
     match decimal(word.as_slice().as_bytes()) {
         Ok(n) if least <= n && n <= greatest => Some(n),
