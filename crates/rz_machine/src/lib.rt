@@ -1,6 +1,8 @@
 //! The written machine: its definitions, the machine that runs, and the tracer.
 #![tactic(auto)]
 
+#[cfg(test)]
+mod call_tests;
 pub mod law;
 pub mod machine;
 pub mod start;

@@ -19,8 +19,8 @@ const HEADERS: [u8; 120] = [
     0, 0, 0, 0, 0, 0,
 ];
 
-// The thin file of a code.
-fn program(alloc: Global, code: &[u8]) -> Result<Elf, ElfError> {
+// The thin file of a code, which stands at 0x401000.
+pub fn program(alloc: Global, code: &[u8]) -> Result<Elf, ElfError> {
     let mut headers = HEADERS;
     put_u64(&mut headers, 96, code.len() as u64);
     put_u64(&mut headers, 104, code.len() as u64);

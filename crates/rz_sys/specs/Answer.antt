@@ -78,9 +78,13 @@ read_allowed None at n m w = read_reply (next_reply w.replies) at n m w
 
 -- ---- write
 
+-- n bytes of memory are moved, from an address on
+abbrev pub sent : ℕ → ℕ → Regions → World → Called
+sent n at m w = replied n (bytes_at m at n) m w
+
 abbrev pub write_reply : Reply → ℕ → ℕ → Regions → World → Called
-write_reply Full at n m w = replied n (bytes_at m at n) m w
-write_reply (AtMost k) at n m w = replied (min k n) (bytes_at m at (min k n)) m w
+write_reply Full at n m w = sent n at m w
+write_reply (AtMost k) at n m w = sent (min k n) at m w
 write_reply (Error e) at n m w = replied (negative e) [] m w
 
 abbrev pub write_allowed : Option ℕ → ℕ → ℕ → Regions → World → Called
@@ -147,12 +151,16 @@ answer_as Exit a b c m w = exits a m w
 answer_as NoFile a b c m w = no_call (negative 9) m w
 answer_as Other a b c m w = no_call (negative 38) m w
 
+-- with the arguments in the registers
+abbrev pub called : Call → List ℕ → Regions → World → Called
+called call regs m w = answer_as call (rdi regs) (rsi regs) (rdx regs) m w
+
 -- the call that the registers name
 abbrev pub call_in : List ℕ → Call
 call_in regs = call_of (rax regs) (rdi regs)
 
 unfoldable pub answer : List ℕ → Regions → World → Called
-answer regs m w = answer_as (call_in regs) (rdi regs) (rsi regs) (rdx regs) m w
+answer regs m w = called (call_in regs) regs m w
 
 abbrev pub event_of : List ℕ → Called → Event
 event_of regs c =

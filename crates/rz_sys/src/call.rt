@@ -1,10 +1,9 @@
 //! System calls: what they answer, record and leave.
 
 ghost use Rattle.std.specs.Prelude.{◌≡◌, ◌≤◌, ◌+◌, ◌^◌, length, set, IfOk, OnOk, OnErr};
-ghost use Rattle.rz_sys.specs.declared.world.World.{World};
-ghost use Rattle.rz_image.specs.Memory.{bytes_at};
-ghost use Rattle.rz_sys.specs.Answer.{answer as answer_of, answer_as, negative as negative_of, received, write_reply as write_reply_of, world_after, regs_left, rdi, rsi, rdx, Read, Write, Brk};
-ghost use Rattle.rz_sys.specs.Calls.Recorded.{recorded_call};
+ghost use Rattle.rz_sys.specs.Answer.{answer as answer_of, called, negative as negative_of, received, regs_left};
+ghost use Rattle.rz_sys.specs.Answer.{rsi, sent, world_after, Read, Write, Brk};
+ghost use Rattle.rz_sys.specs.Calls.Recorded.{recorded_call, refused_call};
 ghost use Rattle.rz_sys.specs.Heap.{HasHeap};
 
 use crate::event::Event;
@@ -50,8 +49,10 @@ pub fn syscall(
     ensures status { IfOk result (λ exit. exit ≡ (answer_of regs.old mem.old world.old).exit) }
     ensures regs { OnOk result (regs.new ≡ regs_left regs.old (answer_of regs.old mem.old world.old)) }
     ensures mem { OnOk result (mem.new ≡ (answer_of regs.old mem.old world.old).mem) }
-    ensures world { OnOk result (world.new ≡ world_after regs.old world.old (answer_of regs.old mem.old world.old)) }
-    ensures err { OnErr result ((regs.new ≡ regs.old) × (mem.new ≡ mem.old) × (world.new ≡ world.old)) }
+    ensures world { OnOk result
+        (world.new ≡ world_after regs.old world.old (answer_of regs.old mem.old world.old)) }
+    ensures err { OnErr result
+        ((regs.new ≡ regs.old) × (mem.new ≡ mem.old) × (world.new ≡ world.old)) }
     ensures heap { HasHeap mem.new world.new }
 {
     let number = regs[RAX];
@@ -91,10 +92,13 @@ fn read(
     mem: &mut Memory,
     world: &mut World,
 ) -> Result<(), OutOfMemory>
-    ensures regs { OnOk result (regs.new ≡ regs_left regs.old (answer_as Read (rdi regs.old) (rsi regs.old) (rdx regs.old) mem.old world.old)) }
-    ensures mem { OnOk result (mem.new ≡ (answer_as Read (rdi regs.old) (rsi regs.old) (rdx regs.old) mem.old world.old).mem) }
-    ensures world { OnOk result (world.new ≡ world_after regs.old world.old (answer_as Read (rdi regs.old) (rsi regs.old) (rdx regs.old) mem.old world.old)) }
-    ensures err { OnErr result ((regs.new ≡ regs.old) × (mem.new ≡ mem.old) × (world.new ≡ world.old)) }
+    ensures regs { OnOk result
+        (regs.new ≡ regs_left regs.old (called Read regs.old mem.old world.old)) }
+    ensures mem { OnOk result (mem.new ≡ (called Read regs.old mem.old world.old).mem) }
+    ensures world { OnOk result
+        (world.new ≡ world_after regs.old world.old (called Read regs.old mem.old world.old)) }
+    ensures err { OnErr result
+        ((regs.new ≡ regs.old) × (mem.new ≡ mem.old) × (world.new ≡ world.old)) }
 {
     let at = regs[RSI];
     let count = regs[RDX].min(MOST);
@@ -105,11 +109,7 @@ fn read(
     match world.replies.first() {
         Reply::Full => receive(alloc, regs, mem, world, most),
         Reply::AtMost(number) => receive(alloc, regs, mem, world, (number as usize).min(most)),
-        Reply::Error(number) => {
-            answered(world, regs, negative(number), Bytes::new(alloc))?;
-            world.replies.advance();
-            Ok(())
-        }
+        Reply::Error(number) => refuse(alloc, regs, world, number),
     }
 }
 
@@ -122,16 +122,81 @@ fn receive(
     count: usize,
 ) -> Result<(), OutOfMemory>
     requires { count ≤ length world.old.stdin }
-    ensures regs { OnOk result (regs.new ≡ regs_left regs.old (received count (rsi regs.old) mem.old world.old)) }
+    ensures regs { OnOk result
+        (regs.new ≡ regs_left regs.old (received count (rsi regs.old) mem.old world.old)) }
     ensures mem { OnOk result (mem.new ≡ (received count (rsi regs.old) mem.old world.old).mem) }
-    ensures world { OnOk result (world.new ≡ world_after regs.old world.old (received count (rsi regs.old) mem.old world.old)) }
-    ensures err { OnErr result ((regs.new ≡ regs.old) × (mem.new ≡ mem.old) × (world.new ≡ world.old)) }
+    ensures world { OnOk result
+        (world.new ≡ world_after regs.old world.old (received count (rsi regs.old) mem.old world.old)) }
+    ensures err { OnErr result
+        ((regs.new ≡ regs.old) × (mem.new ≡ mem.old) × (world.new ≡ world.old)) }
 {
     let at = regs[RSI];
     let bytes = Bytes::from_slice(alloc, &world.stdin.as_slice()[..count])?;
     answered(world, regs, count as u64, bytes)?;
     mem.store_bytes(at, &world.stdin.as_slice()[..count]);
     world.stdin.advance(count);
+    world.replies.advance();
+    Ok(())
+}
+
+// A write to standard output or error.
+fn write(
+    alloc: Global,
+    regs: &mut [u64; 16],
+    mem: &Memory,
+    world: &mut World,
+) -> Result<(), OutOfMemory>
+    ensures regs { OnOk result
+        (regs.new ≡ regs_left regs.old (called Write regs.old mem.now world.old)) }
+    ensures world { OnOk result
+        (world.new ≡ world_after regs.old world.old (called Write regs.old mem.now world.old)) }
+    ensures err { OnErr result ((regs.new ≡ regs.old) × (world.new ≡ world.old)) }
+{
+    let at = regs[RSI];
+    let count = regs[RDX].min(MOST);
+    if !mem.can_read(at, count) {
+        return answered(world, regs, negative(BAD_ADDRESS), Bytes::new(alloc));
+    }
+    match world.replies.first() {
+        Reply::Full => send(alloc, regs, mem, world, count),
+        Reply::AtMost(number) => send(alloc, regs, mem, world, number.min(count)),
+        Reply::Error(number) => refuse(alloc, regs, world, number),
+    }
+}
+
+// A write that moves `count` bytes.
+fn send(
+    alloc: Global,
+    regs: &mut [u64; 16],
+    mem: &Memory,
+    world: &mut World,
+    count: u64,
+) -> Result<(), OutOfMemory>
+    requires { rsi regs.old + count ≤ 2 ^ 64 }
+    ensures regs { OnOk result
+        (regs.new ≡ regs_left regs.old (sent count (rsi regs.old) mem.now world.old)) }
+    ensures world { OnOk result
+        (world.new ≡ world_after regs.old world.old (sent count (rsi regs.old) mem.now world.old)) }
+    ensures err { OnErr result ((regs.new ≡ regs.old) × (world.new ≡ world.old)) }
+{
+    let bytes = mem.copy(alloc, regs[RSI], count)?;
+    answered(world, regs, count, bytes)?;
+    world.replies.advance();
+    Ok(())
+}
+
+// A read or write that the reply in turn refuses.
+fn refuse(
+    alloc: Global,
+    regs: &mut [u64; 16],
+    world: &mut World,
+    number: u64,
+) -> Result<(), OutOfMemory>
+    ensures regs { OnOk result (regs.new ≡ set regs.old 0 (negative_of number)) }
+    ensures world { OnOk result (world.new ≡ refused_call regs.old number world.old) }
+    ensures err { OnErr result ((regs.new ≡ regs.old) × (world.new ≡ world.old)) }
+{
+    answered(world, regs, negative(number), Bytes::new(alloc))?;
     world.replies.advance();
     Ok(())
 }
@@ -144,10 +209,13 @@ fn brk(
     world: &mut World,
 ) -> Result<(), OutOfMemory>
     requires { HasHeap mem.old world.old }
-    ensures regs { OnOk result (regs.new ≡ regs_left regs.old (answer_as Brk (rdi regs.old) (rsi regs.old) (rdx regs.old) mem.old world.old)) }
-    ensures mem { OnOk result (mem.new ≡ (answer_as Brk (rdi regs.old) (rsi regs.old) (rdx regs.old) mem.old world.old).mem) }
-    ensures world { OnOk result (world.new ≡ world_after regs.old world.old (answer_as Brk (rdi regs.old) (rsi regs.old) (rdx regs.old) mem.old world.old)) }
-    ensures err { OnErr result ((regs.new ≡ regs.old) × (mem.new ≡ mem.old) × (world.new ≡ world.old)) }
+    ensures regs { OnOk result
+        (regs.new ≡ regs_left regs.old (called Brk regs.old mem.old world.old)) }
+    ensures mem { OnOk result (mem.new ≡ (called Brk regs.old mem.old world.old).mem) }
+    ensures world { OnOk result
+        (world.new ≡ world_after regs.old world.old (called Brk regs.old mem.old world.old)) }
+    ensures err { OnErr result
+        ((regs.new ≡ regs.old) × (mem.new ≡ mem.old) × (world.new ≡ world.old)) }
 {
     let request = regs[RDI];
     if request < world.first_break || request > world.first_break + HEAP_SIZE {
@@ -157,69 +225,6 @@ fn brk(
     mem.set_open(world.heap, page_up(request) - world.first_break);
     world.brk = request;
     Ok(())
-}
-
-// A write to standard output or error.
-fn write(
-    alloc: Global,
-    regs: &mut [u64; 16],
-    mem: &Memory,
-    world: &mut World,
-) -> Result<(), OutOfMemory>
-    ensures regs { OnOk result (regs.new ≡ regs_left regs.old (answer_as Write (rdi regs.old) (rsi regs.old) (rdx regs.old) mem.now world.old)) }
-    ensures world { OnOk result (world.new ≡ world_after regs.old world.old (answer_as Write (rdi regs.old) (rsi regs.old) (rdx regs.old) mem.now world.old)) }
-    ensures err { OnErr result ((regs.new ≡ regs.old) × (world.new ≡ world.old)) }
-{
-    let at = regs[RSI];
-    let count = regs[RDX].min(MOST);
-    if !mem.can_read(at, count) {
-        return answered(world, regs, negative(BAD_ADDRESS), Bytes::new(alloc));
-    }
-    let moved = write_reply(alloc, world.replies.first(), at, count, mem)?;
-    answered(world, regs, moved.answer, moved.bytes)?;
-    world.replies.advance();
-    Ok(())
-}
-
-// An answer, and the bytes that are moved.
-#[derive(Drop)]
-struct Moved {
-    answer: u64,
-    bytes: Bytes,
-}
-
-// A write of `count` bytes from `at` on as a reply has it.
-fn write_reply(
-    alloc: Global,
-    reply: Reply,
-    at: u64,
-    count: u64,
-    mem: &Memory,
-) -> Result<Moved, OutOfMemory>
-    requires { at + count ≤ 2 ^ 64 }
-    ensures answer { IfOk result (λ moved. (w : World) → moved.answer ≡ (write_reply_of reply at count mem.now w).answer) }
-    ensures bytes { IfOk result (λ moved. (w : World) → moved.bytes ≡ (write_reply_of reply at count mem.now w).bytes) }
-{
-    match reply {
-        Reply::Full => move_bytes(alloc, at, count, mem),
-        Reply::AtMost(most) => move_bytes(alloc, at, most.min(count), mem),
-        Reply::Error(number) => Ok(Moved {
-            answer: negative(number),
-            bytes: Bytes::new(alloc),
-        }),
-    }
-}
-
-// A write that moves `count` bytes.
-fn move_bytes(alloc: Global, at: u64, count: u64, mem: &Memory) -> Result<Moved, OutOfMemory>
-    requires { at + count ≤ 2 ^ 64 }
-    ensures { IfOk result (λ moved. (moved.answer ≡ count) × (moved.bytes ≡ bytes_at mem.now at count)) }
-{
-    let bytes = mem.copy(alloc, at, count)?;
-    Ok(Moved {
-        answer: count,
-        bytes,
-    })
 }
 
 // Records a call that goes on with this answer in RAX.
