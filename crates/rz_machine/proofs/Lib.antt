@@ -20,3 +20,4 @@ pub mod StackLaws
 mod StartRows
 pub mod StubLaws
 mod StubRows
+pub mod StubFound
