@@ -6,3 +6,4 @@ pub mod PlainAccepted
 pub mod PlainCells
 pub mod Reading
 pub mod Sound
+pub mod Stamp

@@ -6,4 +6,3 @@ pub mod Writable
 pub mod NewHeaders
 pub mod NewFile
 pub mod ExtentLaws
-pub mod StampLaws

@@ -21,3 +21,4 @@ mod StartRows
 pub mod StartHeap
 pub mod StubLaws
 mod StubRows
+pub mod StubFound

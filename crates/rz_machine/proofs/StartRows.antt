@@ -38,6 +38,18 @@ words-three : stack_words three ≡ 3 ∷ 0x7fffffffeffa ∷ 0x7fffffffeffd ∷ 
 unfolding three
 words-three = refl
 
+-- 40 bytes of words and 8 zeros, all of them 0
+bytes-none : stack_bytes none
+    ≡ zeros 0xfffd0
+    ++ (0 ∷ 0 ∷ 0 ∷ 0 ∷ 0 ∷ 0 ∷ 0 ∷ 0
+    ∷ 0 ∷ 0 ∷ 0 ∷ 0 ∷ 0 ∷ 0 ∷ 0 ∷ 0
+    ∷ 0 ∷ 0 ∷ 0 ∷ 0 ∷ 0 ∷ 0 ∷ 0 ∷ 0
+    ∷ 0 ∷ 0 ∷ 0 ∷ 0 ∷ 0 ∷ 0 ∷ 0 ∷ 0
+    ∷ 0 ∷ 0 ∷ 0 ∷ 0 ∷ 0 ∷ 0 ∷ 0 ∷ 0
+    ∷ (zeros 8 ++ []))
+unfolding none stack_bytes first_rsp
+bytes-none = refl
+
 -- 48 bytes of words, 14 zeros and the string
 bytes-one : stack_bytes one
     ≡ zeros 0xfffc0

@@ -1,12 +1,17 @@
 -- Stubs: where the run of a stamped file stands that took an edge that isn't kept.
-use Rattle.std.specs.Prelude.{ℕ, ◌+◌, ◌-◌, ◌%◌, ◌&&◌, if◌then◌else◌, nat_le, ◌==◌, length, drop, Option, Some, None, option_and_then}
+use Rattle.std.specs.Prelude.{◌≡◌, ℕ, ◌+◌, ◌-◌, ◌%◌, ◌^◌, ◌<◌, true, ◌&&◌, List, if◌then◌else◌, nat_le, ◌==◌, length, drop, Option, Some, None, option_and_then}
 use Rattle.std.specs.List.{slice_get}
 use Rattle.byteorder.specs.Endian.{little_number}
 use Rattle.rz_image.specs.declared.region.Region.{Region}
 use Rattle.rz_image.specs.Memory.{contains}
 use Rattle.rz_elf.specs.AddedRange.{stub_size}
-use Rattle.rz_elf.specs.Loaded.{ElfFile, loaded}
+use Rattle.rz_elf.specs.Elf.{image_of}
+use Rattle.rz_elf.specs.Loaded.{ElfFile, elf_of, loaded}
 use Rattle.rz_elf.specs.Stamped.{is_stamped}
+use Rattle.rz_isa.specs.Nodes.{Decoder}
+use Rattle.rz_machine.specs.Added.{layout_of}
+use Rattle.rz_machine.specs.Kept.{Kept, has_node}
+use Rattle.rz_machine.specs.WrittenFile.{Inert}
 use Rattle.rz_machine.specs.declared.machine.End.{End}
 use Rattle.rz_machine.specs.declared.machine.End.TheVariants as end
 
@@ -33,3 +38,9 @@ stub_word_of elf end.Divide = None
 stub_word_of elf end.Halted = None
 stub_word_of elf end.Break = None
 stub_word_of elf end.Popped = None
+
+-- in a written file, the stub of each kept node has the node's address as its word
+abbrev pub StubsNameNodes : Type 0
+StubsNameNodes =
+    (dec : Decoder) (x w : List ℕ) (kept : Kept) → Inert dec x w kept → (a : ℕ) → a < 2 ^ 64 → has_node kept.nodes a ≡ true
+    → stub_word_of (elf_of w) (end.Illegal ((layout_of dec (image_of x) kept).stub a)) ≡ Some a

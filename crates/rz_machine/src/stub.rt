@@ -2,7 +2,7 @@
 
 ghost use Rattle.std.specs.Prelude.{◌≡◌, ◌+◌, ◌<◌, ◌^◌, length, get_or};
 ghost use Rattle.rz_elf.specs.Loaded.{IsLoad, loaded_region};
-ghost use Rattle.rz_machine.specs.Stub.{stub_in as stub_of, stub_word_of, word_in as word_of};
+ghost use Rattle.rz_machine.specs.Stub.{StubsNameNodes, stub_in as stub_of, stub_word_of, word_in as word_of};
 
 use crate::machine::End;
 use rz_elf::elf::{Elf, Load};
@@ -32,6 +32,12 @@ pub fn stub_word(elf: &Elf, end: End) -> Option<u64>
         _ => None,
     }
 }
+
+/// In a written file, the stub of each kept instruction has the instruction's address as its word. It does nothing when
+/// it runs.
+pub fn stubs_name_nodes()
+    ensures { StubsNameNodes }
+{}
 
 // The word of the stub that begins at an address of a load.
 fn stub_in(file: &[u8], load: &Load, at: u64) -> Option<u64>

@@ -5,11 +5,11 @@ use Rattle.rz_elf.specs.declared.segment.Segment.{Segment}
 use Rattle.rz_elf.specs.Elf.{fault_of, image_of}
 use Rattle.rz_elf.specs.Loaded.{ElfFile, IsRead}
 use Rattle.rz_elf.specs.WrittenFile.{Parts, header_page, new_segments, written_file}
+use Rattle.rz_elf.specs.Laws.Stamp.{written_stamped}
 use Rattle.rz_elf.specs.Room.{ArePages, IsInCode, extent_of, no_room, parts_end, parts_size}
 use Rattle.rz_elfw.proofs.HeaderBytes.{AreBytes}
 use Rattle.rz_elfw.proofs.Writable.{IsWritable, floor_low}
 use Rattle.rz_elfw.proofs.NewFile.{written_accepted, written_image}
-use Rattle.rz_elfw.proofs.StampLaws.{written_stamped}
 use Rattle.rz_elfw.proofs.write.write_elf.Goals as goal
 
 -- one append after the other
