@@ -24,7 +24,7 @@ register_names W64 =
 abbrev pub second_byte_names : List (List ℕ)
 second_byte_names = codes "ah" ∷ codes "ch" ∷ codes "dh" ∷ codes "bh" ∷ []
 
--- the name at a place; a number of no register has none
+-- the name at a place; a number that no register has is named by the empty text
 abbrev name_at : List (List ℕ) → ℕ → List ℕ
 name_at table n = unwrap_or (slice_get table n) []
 

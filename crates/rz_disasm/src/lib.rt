@@ -8,3 +8,6 @@ mod statement;
 mod text;
 
 pub use text::line;
+
+#[cfg(test)]
+mod tests;

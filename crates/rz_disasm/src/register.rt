@@ -6,7 +6,8 @@ ghost use Rattle.rz_disasm.specs.Registers.{number_name as name_of_number, secon
 use rz_isa::Reg;
 use rz_num::Width;
 
-/// The name of a register at a width (Intel SDM, volume 1, section 3.4.1.1). A number of no register has the empty name.
+/// The name of a register at a width (Intel SDM, volume 1, section 3.4.1.1). A number that no register has is named by
+/// the empty text.
 pub fn register_name(w: Width, reg: Reg) -> &'static str
     ensures { result.now ≡ name_of_register w reg }
 {

@@ -38,7 +38,8 @@ impl fmt::Display for Operands {
     }
 }
 
-/// What is printed of an instruction: its name, which has an ending of its own for a condition or a width, and its operands.
+/// What is printed of an instruction: its name, where a condition or a width may have an ending of its own, and its
+/// operands.
 #[derive(Clone, Copy)]
 pub struct Statement {
     pub stem: &'static str,

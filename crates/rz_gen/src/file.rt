@@ -16,8 +16,8 @@ pub const GEN_STEPS_LIMIT: u64 = 1_000_000;
 // The bytes of a function and of its word in the table.
 const SIZE_OF_EACH: u64 = 24;
 
-/// The file of a program of `n` functions, 1 to 4000: it calls each of them, then each through a table from the last one
-/// on, and exits with the low byte of the sum that they make. It refuses for want of memory alone.
+/// The file of a program of `n` functions, 1 to 4000: it calls each of them, then each through a table from the last
+/// one on, and exits with the low byte of the sum that they make. It refuses for want of memory alone.
 pub fn gen_file(alloc: Global, n: u32) -> Result<Bytes, OutOfMemory>
     requires some { 1 ≤ n }
     requires few { n ≤ 4000 }

@@ -4,3 +4,6 @@
 mod lines;
 
 pub use lines::listing;
+
+#[cfg(test)]
+mod tests;

@@ -23,7 +23,8 @@ pub fn listing<T: InsnTable>(
     at: u64,
     count: u32,
 ) -> Result<Bytes, OutOfMemory>
-    ensures { IfOk result (λ text. text ≡ listing_text (decoded T.rows) (file_code elf.now.bytes) count at) }
+    ensures { let code = file_code elf.now.bytes in
+        IfOk result (λ text. text ≡ listing_text (decoded T.rows) code count at) }
 {
     let mut text = Bytes::new(alloc);
     let mut at = at;
@@ -45,7 +46,8 @@ fn push_line_at<T: InsnTable>(
 ) -> Result<Option<u64>, OutOfMemory>
     ensures text { let code = file_code elf.now.bytes in
         OnOk result (text.new ≡ text.old ++ line_of (spelled_at (decoded T.rows) code at) (code at) at) }
-    ensures next { IfOk result (λ next. next ≡ next_of (spelled_at (decoded T.rows) (file_code elf.now.bytes) at) at) }
+    ensures next { let spelled = spelled_at (decoded T.rows) (file_code elf.now.bytes) at in
+        IfOk result (λ next. next ≡ next_of spelled at) }
 {
     let mut bytes = [0; 15];
     let count = code_at(elf, at, &mut bytes);
