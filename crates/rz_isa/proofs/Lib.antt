@@ -19,3 +19,4 @@ pub mod Served
 pub mod Targeted
 pub mod Elsewhere
 pub mod Within
+pub mod PlanRows

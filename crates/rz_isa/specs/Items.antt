@@ -76,10 +76,12 @@ label_address frags places s to = option_map places (label_number frags s to)
 abbrev pub absolute : ℕ → Mem
 absolute a = record { base = None; index = None; scale = 1; disp = pos a }
 
+abbrev pub store : ℕ → ℕ → Insn
+store a n = insn.Mov W64 (place.Mem (absolute a)) (operand.Imm n)
+
 abbrev pub resolved : Addresses → Item → Option Insn
 resolved at (item.Whole x) = Some x
 resolved at (item.Jump None to) = option_map (λ t. insn.Jmp t) (at to)
 resolved at (item.Jump (Some cond) to) = option_map (λ t. insn.Jcc cond t) (at to)
 resolved at (item.Jrcxz to) = option_map (λ t. insn.Jrcxz t) (at to)
-resolved at (item.Store a to) =
-    if nat_lt a (2 ^ 31) then option_map (λ t. insn.Mov W64 (place.Mem (absolute a)) (operand.Imm t)) (at to) else None
+resolved at (item.Store a to) = if nat_lt a (2 ^ 31) then option_map (store a) (at to) else None

@@ -35,7 +35,7 @@ abbrev pub jump_len : Option Cond → Bool → Form → ℕ
 jump_len cond true Short = 2
 jump_len cond inner form = near_len cond
 
--- a move of four bytes to memory at an absolute address has REX.W, an opcode, ModRM, SIB, and four bytes twice
+-- a move of four bytes to an absolute address has REX.W, an opcode, ModRM, SIB, and four bytes twice
 abbrev pub item_len : List Row → Item → Form → ℕ
 item_len rows (item.Whole x) form = spelled_len (chosen rows Near x)
 item_len rows (item.Jump cond to) form = jump_len cond (is_inner to) form
@@ -55,7 +55,8 @@ len_or_none rows (Some s) form = item_len rows s.item form
 -- how many bytes the first items take
 unfoldable pub offset : List Row → List Slot → List Form → ℕ → ℕ
 offset rows list forms zero = 0
-offset rows list forms (suc k) = offset rows list forms k + len_or_none rows (slice_get list k) (form_at forms k)
+offset rows list forms (suc k) =
+    offset rows list forms k + len_or_none rows (slice_get list k) (form_at forms k)
 
 -- the place of the item of a number, where the items stand from the address `base` on
 abbrev pub place : List Row → Fragments → ℕ → List Form → Places
@@ -67,7 +68,8 @@ code_end rows frags base forms = place rows frags base forms (length (slots frag
 
 -- ---- plans
 
--- what a displacement of one byte reaches from the end of its instruction (Intel SDM, volume 2, section 3.1.1.3, "rel8")
+-- what a displacement of one byte reaches from the end of its instruction (Intel SDM, volume 2,
+-- section 3.1.1.3, "rel8")
 pub record Reaches (from to : ℕ) : Type 0 where
   pub forward : to ≤ from + 127
   pub backward : from ≤ to + 128
@@ -84,13 +86,18 @@ pub record IsPlaced (rows : List Row) (at : Addresses) (from : ℕ) (i : Item) (
   pub reach : InReach at from i form
   pub spelled : IsSomeAnd (resolved at i) (λ x. HasSpelling rows x from form (item_len rows i form))
 
+abbrev pub IsPlacedAt : List Row → Fragments → ℕ → List Form → ℕ → Slot → Type 0
+IsPlacedAt rows frags base forms k s =
+    let places = place rows frags base forms in
+    IsPlaced rows (label_address frags places s) (places k) s.item (form_at forms k)
+
 -- a plan: a form for each item, with which each item is placed
 pub record IsPlan (rows : List Row) (frags : Fragments) (base : ℕ) (forms : List Form) : Type 0 where
   pub each : length forms ≡ length (slots frags)
-  pub placed : (k : ℕ) (s : Slot) → slice_get (slots frags) k ≡ Some s
-      → IsPlaced rows (label_address frags (place rows frags base forms) s) (place rows frags base forms k) s.item (form_at forms k)
+  pub placed : (k : ℕ) (s : Slot) → slice_get (slots frags) k ≡ Some s → IsPlacedAt rows frags base forms k s
 
 -- the least plan: what is near in it is near in every plan for the same items and base
 abbrev pub IsLeastPlan : List Row → Fragments → ℕ → List Form → Type 0
 IsLeastPlan rows frags base forms =
-    (other : List Form) → IsPlan rows frags base other → (k : ℕ) → form_at forms k ≡ Near → form_at other k ≡ Near
+    (other : List Form) → IsPlan rows frags base other
+    → (k : ℕ) → form_at forms k ≡ Near → form_at other k ≡ Near

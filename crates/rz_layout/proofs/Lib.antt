@@ -6,3 +6,4 @@ pub mod Labels
 pub mod Flat
 pub mod Spelled
 pub mod Planned
+pub mod LeastPlans

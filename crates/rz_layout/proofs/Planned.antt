@@ -23,7 +23,7 @@ use Rattle.rz_isa.specs.Emitted.{Emits, HasSpelling}
 use Rattle.rz_num.specs.declared.width.Width.TheVariants.{W64}
 use Rattle.rz_isa.specs.declared.instruction.Place.TheVariants as mem
 use Rattle.rz_isa.specs.declared.instruction.Operand.TheVariants as operand
-use Rattle.rz_isa.specs.Items.{Places, Addresses, absolute, slots, label_number, label_address, beside, resolved}
+use Rattle.rz_isa.specs.Items.{Places, Addresses, slots, label_number, label_address, beside, resolved, store}
 use Rattle.rz_isa.specs.Plan.{is_inner, near_len, jump_len, item_len, spelled_len, form_at, place, code_end, Reaches, InReach, IsPlaced, IsPlan, IsLeastPlan}
 use Rattle.rz_encode.specs.Length.{SameLengths}
 use Rattle.rz_layout.specs.declared.piece.Piece.{Piece}
@@ -34,7 +34,7 @@ use Rattle.rz_layout.specs.Calls.Ordered.{number_or_first, jump_piece, item_piec
 use Rattle.rz_layout.proofs.Offsets.{offset_more, offset_up, offset_down, reaches_two, may_be_short, short_reaches, fixed_not_short}
 use Rattle.rz_layout.proofs.Labels.{all_get, number_within, some_is_some}
 use Rattle.rz_layout.proofs.Flat.{item_len_same, piece_of_slot, pieces_count, offset_same, near_all}
-use Rattle.rz_layout.proofs.Spelled.{moved, has_chosen, jump, jump_near, jump_short, jrcxz_spelled, store, store_spelled, store_names_low}
+use Rattle.rz_layout.proofs.Spelled.{moved, has_chosen, jump, jump_near, jump_short, jrcxz_spelled, store_spelled, store_names_low}
 
 -- ---- values that are there
 
@@ -294,7 +294,7 @@ module _ (rows : List Row) (frags : Fragments) (base : ℕ) where
             }
 
         abbrev store_at : ℕ → Option ℕ → Option Insn
-        store_at a o = option_map (λ t. insn.Mov W64 (mem.Mem (absolute a)) (operand.Imm t)) o
+        store_at a o = option_map (store a) o
 
         store_placed : (k : ℕ) (s : Slot) → slice_get (slots frags) k ≡ Some s → (a : ℕ) (to : Label) → s.item ≡ item.Store a to → IsSomeAnd (resolved (label_address frags (place rows frags base forms) s) (item.Store a to)) (λ x. HasSpelling rows x (place rows frags base forms k) Near 12)
         store_placed k s is a to e = by (nat_lt a (2 ^ 31)) refl (near_item k s is (item.Store a to) e).spelled

@@ -17,7 +17,7 @@ use Rattle.rz_isa.specs.Insn.{target_of}
 use Rattle.rz_isa.specs.Targets.{NamesLow}
 use Rattle.rz_isa.specs.Within.{SpelledWithin}
 use Rattle.rz_isa.specs.Emitted.{Emits, HasSpelling, near, close, fits_32}
-use Rattle.rz_isa.specs.Items.{absolute}
+use Rattle.rz_isa.specs.Items.{absolute, store}
 use Rattle.rz_isa.specs.Plan.{spelled_len, near_len, Reaches}
 use Rattle.rz_encode.specs.Length.{chosen_len, SameLengths}
 
@@ -104,9 +104,6 @@ fits_low t h = grind (arith, nat_tests)
 
 absolute_is_memory : (a : ℕ) → nat_lt a (2 ^ 31) ≡ true → IsTrue (is_memory (absolute a))
 absolute_is_memory a h = h
-
-abbrev pub store : ℕ → ℕ → Insn
-store a t = insn.Mov W64 (place.Mem (absolute a)) (operand.Imm t)
 
 pub store_spelled : (rows : List Row) → Emits rows → (a t from : ℕ) → nat_lt a (2 ^ 31) ≡ true → t < 2 ^ 31 → HasSpelling rows (store a t) from Near 12
 store_spelled rows emits a t from h k = emits.store_imm t from (absolute a) (fits_low t k) (absolute_is_memory a h)

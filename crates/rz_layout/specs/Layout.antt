@@ -36,7 +36,7 @@ abbrev pub is_code : Label → Bool
 is_code (label.Table a) = false
 is_code to = true
 
--- an instruction names no address that moves: it has no direct target, and what it names relative to RIP is low;
+-- an instruction has no direct target, and what it names relative to RIP is low;
 -- a jump leads into the code or to a stub, JRCXZ into the code
 abbrev pub CanMove : Item → Type 0
 CanMove (item.Whole x) = (target_of x ≡ None) × NamesLow x
@@ -61,6 +61,6 @@ abbrev pub forms_of : Layout → List Form
 forms_of laid = map form_of laid.forms
 
 -- the places of the items, in their order
-pub record ArePlaces (rows : List Row) (frags : Fragments) (base : ℕ) (forms : List Form) (places : List ℕ) : Type 0 where
-  pub each : length places ≡ length (slots frags)
-  pub at : (k : ℕ) → k < length (slots frags) → slice_index places k ≡ place rows frags base forms k
+pub record ArePlaces (rows : List Row) (frags : Fragments) (base : ℕ) (forms : List Form) (list : List ℕ) : Type 0 where
+  pub each : length list ≡ length (slots frags)
+  pub at : (k : ℕ) → k < length (slots frags) → slice_index list k ≡ place rows frags base forms k

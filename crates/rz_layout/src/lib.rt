@@ -1,6 +1,7 @@
 //! The layout of a new file's code: the form of each jump, and the place of each item.
 #![tactic(auto)]
 
+pub mod laws;
 pub mod layout;
 mod order;
 mod piece;
@@ -9,3 +10,8 @@ pub mod plan;
 mod settle;
 mod sizes;
 mod span;
+
+#[cfg(test)]
+mod fit;
+#[cfg(test)]
+mod tests;

@@ -1,10 +1,10 @@
 //! Fragments as pieces of code.
 
-ghost use Rattle.std.specs.Prelude.{◌≡◌, map, All, IfOk};
+ghost use Rattle.std.specs.Prelude.{◌≡◌, All, IfOk};
 ghost use Rattle.rz_isa.specs.Items.{slots};
 ghost use Rattle.rz_isa.specs.Plan.{near_len as near_len_of};
 ghost use Rattle.rz_layout.specs.Layout.{IsAscending, nodes_of};
-ghost use Rattle.rz_layout.specs.Calls.Ordered.{ordered_piece, pieces_of as pieces_of_items, IsChosen};
+ghost use Rattle.rz_layout.specs.Calls.Ordered.{ordered_piece, ordered_pieces as ordered_pieces_of, pieces_of as pieces_of_items, IsChosen};
 
 use crate::order::{Order, in_order};
 use crate::piece::Piece;
@@ -28,7 +28,7 @@ pub fn pieces_of<T: InsnTable>(alloc: Global, frags: &Fragments) -> Result<Vec<P
 fn ordered_pieces<T: InsnTable>(alloc: Global, order: &Order) -> Result<Vec<Piece>, OutOfMemory>
     requires ascending { IsAscending order.now.nodes.items }
     requires chosen { All (IsChosen T.rows) order.now.slots.items }
-    ensures { IfOk result (λ pieces. pieces.items ≡ map (ordered_piece T.rows order.now) order.now.slots.items) }
+    ensures { IfOk result (λ pieces. pieces.items ≡ ordered_pieces_of T.rows order.now) }
 {
     let mut pieces = Vec::new(alloc);
     for slot in order.slots.as_slice() {

@@ -7,7 +7,7 @@ use crate::piece::Piece;
 use crate::span::{first_over, is_too_far};
 use rz_isa::Form;
 
-/// Makes jumps near until each that is still short may be. It makes near what is so in each plan, and no more.
+/// Makes jumps near until each that is still short may be. What it makes near is so in each plan.
 pub fn settle(pieces: &[Piece], forms: &mut [Form])
     requires each { length forms.old ≡ length pieces.now }
     requires labels { HaveLabels pieces.now }

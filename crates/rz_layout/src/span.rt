@@ -4,18 +4,18 @@ ghost use Rattle.std.specs.Prelude.{◌≡◌, ℕ, ◌+◌, ◌<◌, ◌≤◌,
 ghost use Rattle.std.specs.Bool.{OnTrue, OnFalse};
 ghost use Rattle.rz_isa.specs.declared.rows.Form.TheVariants.{Short};
 ghost use Rattle.rz_isa.specs.Plan.{form_at, Reaches};
-ghost use Rattle.rz_layout.specs.Calls.Pieces.{len_of, piece_offset, piece_at, HaveLabels, MayBeShortAt, IsTooFar};
+ghost use Rattle.rz_layout.specs.Calls.Pieces.{len_of, piece_offset as offset, piece_at, HaveLabels, MayBeShortAt, IsFarBefore, IsTooFar};
 
 use crate::piece::Piece;
 use rz_isa::Form;
 
-/// Whether the pieces from one index up to another take at most so many bytes. It reads no further than these.
+/// Whether the pieces from one number up to another take at most so many bytes. It reads no further.
 #[tactic(auto, using(crate::proofs::Offsets::offset_more, crate::proofs::Offsets::offset_up))]
 pub fn span_within(pieces: &[Piece], forms: &[Form], from: usize, to: usize, limit: u64) -> bool
     requires each { length forms.now ≡ length pieces.now }
     requires ascending { from ≤ to }
     requires within { to ≤ length pieces.now }
-    ensures { IsTrue result ↔ (piece_offset pieces.now forms.now to ≤ piece_offset pieces.now forms.now from + limit) }
+    ensures { IsTrue result ↔ (offset pieces.now forms.now to ≤ offset pieces.now forms.now from + limit) }
 {
     let mut left = limit;
     for k in from..to {
@@ -34,7 +34,7 @@ fn reaches(pieces: &[Piece], forms: &[Form], i: usize, to: usize) -> bool
     requires short { len_of (piece_at pieces.now i) (form_at forms.now i) ≡ 2 }
     requires from { i < length pieces.now }
     requires to { to ≤ length pieces.now }
-    ensures { IsTrue result ↔ Reaches (piece_offset pieces.now forms.now i + 2) (piece_offset pieces.now forms.now to) }
+    ensures { IsTrue result ↔ Reaches (offset pieces.now forms.now i + 2) (offset pieces.now forms.now to) }
 {
     if i < to {
         span_within(pieces, forms, i + 1, to, 127)
@@ -65,7 +65,7 @@ pub fn first_over(pieces: &[Piece], forms: &[Form], i: usize) -> usize
     requires each { length forms.now ≡ length pieces.now }
     requires within { i < length pieces.now }
     ensures before { result ≤ i }
-    ensures away { (k : ℕ) → k < result → piece_offset pieces.now forms.now (k + 1) + 127 < piece_offset pieces.now forms.now i }
+    ensures away { (k : ℕ) → k < result → IsFarBefore pieces.now forms.now k i }
 {
     let mut start = i;
     let mut left = 127;

@@ -1,5 +1,5 @@
 -- The items of fragments in one order, the numbers of their labels, and their pieces.
-use Rattle.std.specs.Prelude.{◌≡◌, ℕ, ◌+◌, ◌==◌, nat_le, Bool, true, false, List, [], ◌∷◌, length, map, Option, Some, None, IsSome, is_some, slice_index_or, if◌then◌else◌}
+use Rattle.std.specs.Prelude.{◌≡◌, ℕ, ◌+◌, ◌==◌, nat_le, Bool, true, false, List, [], ◌∷◌, ◌++◌, length, map, Option, Some, None, IsSome, is_some, slice_index_or, if◌then◌else◌}
 use Rattle.rz_flags.specs.declared.Cond.{Cond}
 use Rattle.rz_isa.specs.declared.rows.Row.{Row}
 use Rattle.rz_isa.specs.declared.rows.Form.TheVariants.{Near}
@@ -11,7 +11,7 @@ use Rattle.rz_isa.specs.declared.item_list.Slot.{Slot}
 use Rattle.rz_isa.specs.declared.fragment_list.Fragment.{Fragment}
 use Rattle.rz_isa.specs.declared.fragment_list.Fragments.{Fragments}
 use Rattle.rz_isa.specs.Canonical.{chosen}
-use Rattle.rz_isa.specs.Items.{slots, first_number, item_count, label_number}
+use Rattle.rz_isa.specs.Items.{list_slots, slots, first_number, item_count, label_number}
 use Rattle.rz_isa.specs.Plan.{spelled_len, is_inner, near_len}
 use Rattle.rz_layout.specs.declared.order.Order.{Order}
 use Rattle.rz_layout.specs.declared.piece.Piece.{Piece}
@@ -22,6 +22,10 @@ use Rattle.rz_layout.specs.Layout.{nodes_of}
 abbrev pub index_of : List ℕ → ℕ → ℕ
 index_of [] a = 0
 index_of (b ∷ bs) a = if b == a then 0 else 1 + index_of bs a
+
+-- the items of one more list
+abbrev pub appended : List Slot → List Item → List Slot
+appended before items = before ++ list_slots (length before) items
 
 -- the number of each fragment's first item, where it has one
 abbrev pub starts_from : ℕ → List Fragment → List (Option ℕ)
@@ -62,6 +66,9 @@ item_piece rows number (item.Store a to) = Fixed 12
 -- by an order's numbers
 abbrev pub ordered_piece : List Row → Order → Slot → Piece
 ordered_piece rows order s = item_piece rows (number_in order s) s.item
+
+abbrev pub ordered_pieces : List Row → Order → List Piece
+ordered_pieces rows order = map (ordered_piece rows order) order.slots.items
 
 -- by the numbers of the definition
 abbrev pub slot_piece : List Row → Fragments → Slot → Piece

@@ -34,7 +34,8 @@ total_len pieces forms = piece_offset pieces forms (length pieces)
 -- (distances, so that it doesn't matter where the first piece stands)
 unfoldable pub MayBeShort : List Piece → List Form → ℕ → Piece → Type 0
 MayBeShort pieces forms k (Fixed len) = ⊥
-MayBeShort pieces forms k (Jump cond to) = Reaches (piece_offset pieces forms k + 2) (piece_offset pieces forms to)
+MayBeShort pieces forms k (Jump cond to) =
+    Reaches (piece_offset pieces forms k + 2) (piece_offset pieces forms to)
 
 -- the piece of a number may be short where these forms are taken
 abbrev pub MayBeShortAt : List Piece → List Form → ℕ → Type 0
@@ -57,6 +58,10 @@ IsLeastForms pieces forms = (other : List Form) → IsPiecePlan pieces other →
 pub record IsTooFar (pieces : List Piece) (forms : List Form) (k : ℕ) : Type 0 where
   pub short : form_at forms k ≡ Short
   pub unreached : MayBeShortAt pieces forms k → ⊥
+
+-- a piece ends more than 127 bytes before another begins
+abbrev pub IsFarBefore : List Piece → List Form → ℕ → ℕ → Type 0
+IsFarBefore pieces forms k i = piece_offset pieces forms (k + 1) + 127 < piece_offset pieces forms i
 
 -- the label of a piece names a piece, or the place behind the last
 abbrev pub HasLabelWithin : ℕ → Piece → Type 0
