@@ -42,7 +42,7 @@ length_short row f regular can =
 
 -- ---- a row without a displacement from the next address
 
-no_displacement : (b : Bool) (n : ℕ) → (if b then Some n else None) ≡ None → b ≡ false
+pub no_displacement : (b : Bool) (n : ℕ) → (if b then Some n else None) ≡ None → b ≡ false
 no_displacement true n e = absurd (none_some n (sym e))
 no_displacement false n e = refl
 
@@ -50,7 +50,7 @@ near_form : (f : Form) (k : Option ImmKind) → form_suits f k ≡ true → is_d
 near_form forms.Near k s n = refl
 near_form forms.Short k s n = absurd (never (is_displacement k) s n)
 
-imm_near : (k : Option ImmKind) (next n : ℕ) → is_displacement k ≡ false → imm_reaches k next n ≡ true
+pub imm_near : (k : Option ImmKind) (next n : ℕ) → is_displacement k ≡ false → imm_reaches k next n ≡ true
 imm_near (Some imms.J8) next n e = absurd (cc)
 imm_near (Some imms.J32) next n e = absurd (cc)
 imm_near _ next n e = refl
@@ -104,7 +104,7 @@ low_offset next a ln la = grind (arith, nat_tests)
 low_next : (at n : ℕ) → at + 32 ≤ 2 ^ 31 → n ≤ 15 → (at + n) % 2 ^ 64 < 2 ^ 31
 low_next at n low short = omega arith
 
-place_near : (row : Row) (x : Insn) (f : Fields) (next : ℕ) (p : Place) → is_regular row ≡ true → found row x ≡ Some f → f.rm ≡ p → NamesLow x → next < 2 ^ 31 → place_reaches next p ≡ true
+pub place_near : (row : Row) (x : Insn) (f : Fields) (next : ℕ) (p : Place) → is_regular row ≡ true → found row x ≡ Some f → f.rm ≡ p → NamesLow x → next < 2 ^ 31 → place_reaches next p ≡ true
 place_near row x f next (places.Reg r) regular e ep low ln = refl
 place_near row x f next (places.Mem m) regular e ep low ln = refl
 place_near row x f next (places.At a) regular e ep low ln = elim (rip_targets row.op) [

@@ -18,3 +18,5 @@ pub mod Choice
 pub mod Served
 pub mod Targeted
 pub mod Elsewhere
+pub mod Within
+pub mod PlanRows

@@ -17,3 +17,6 @@ pub mod DecodedLaws
 pub mod Class
 pub mod Index
 pub mod Nodes
+pub mod Items
+pub mod Plan
+pub mod Within

@@ -2,6 +2,7 @@ ghost use Rattle.std.specs.Prelude.{IsTrue};
 ghost use Rattle.rz_isa.specs.Emitted.{Emits, EmitsLookup, has_lookup};
 ghost use Rattle.rz_isa.specs.Table.{OneRow, Lengths, OneCanonicalRow, HasChosen, CanonicalSpells};
 ghost use Rattle.rz_isa.specs.Targets.{RipTargets, DirectTargets, IndirectOperands, SpelledElsewhere};
+ghost use Rattle.rz_isa.specs.Within.{SpelledWithin};
 
 use crate::table::InsnTable;
 
@@ -45,6 +46,13 @@ pub fn targets<T: InsnTable>()
 /// relative to RIP is below 2^31.
 pub fn spelled_elsewhere<T: InsnTable>()
     ensures { SpelledElsewhere T.rows }
+{}
+
+/// An instruction without a direct target for which a row is chosen has a canonical spelling of
+/// the near form at each address from which that ends below 2^31, where what it names relative
+/// to RIP is below 2^31.
+pub fn spelled_within<T: InsnTable>()
+    ensures { SpelledWithin T.rows }
 {}
 
 /// The instructions that fragments and stubs are made of have canonical spellings; a table with

@@ -1,0 +1,17 @@
+//! The layout of a new file's code: the form of each jump, and the place of each item.
+#![tactic(auto)]
+
+pub mod laws;
+pub mod layout;
+mod order;
+mod piece;
+mod pieces;
+pub mod plan;
+mod settle;
+mod sizes;
+mod span;
+
+#[cfg(test)]
+mod fit;
+#[cfg(test)]
+mod tests;
