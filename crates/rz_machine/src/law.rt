@@ -6,7 +6,7 @@ ghost use Rattle.rz_machine.specs.Placement.{PlacementsKeep};
 use rz_isa::InsnTable;
 
 /// Whatever the placement of what is kept, in any spelling of the table, each run of the original is kept, with one
-/// to three steps for each of its steps.
+/// to three steps for each of its steps. Both images leave room for a heap, above what is added.
 pub fn placements_keep<T: InsnTable>()
     ensures { PlacementsKeep (decoded T.rows) 3 }
 {}
