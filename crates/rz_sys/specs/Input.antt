@@ -1,5 +1,5 @@
 -- Inputs: which ones a run may be given.
-use Rattle.std.specs.Prelude.{◌≡◌, ℕ, ◌<◌, ◌≤◌, List, [], ◌∷◌, ◌++◌, length, flat_map}
+use Rattle.std.specs.Prelude.{ℕ, ◌<◌, ◌≤◌, List, [], ◌∷◌, ◌++◌, length, flat_map}
 use Rattle.std.specs.List.{AllByRecursion}
 use Rattle.rz_sys.specs.declared.input.Input.{Input}
 use Rattle.rz_sys.specs.declared.input.Reply.{Reply}
@@ -21,9 +21,6 @@ pub record IsValid (input : Input) : Type 0 where
   pub replies : AllByRecursion IsValidReply input.replies
   pub stdin : AllByRecursion (λ b. b < 256) input.stdin
 
--- no arguments, no input and no replies
-abbrev pub IsEmptyInput : Input → Type 0
-IsEmptyInput input = (input.args ≡ []) × (input.stdin ≡ []) × (input.replies ≡ [])
-
+-- no arguments, no standard input and no replies
 abbrev pub empty_input : Input
 empty_input = record { args = []; stdin = []; replies = [] }
