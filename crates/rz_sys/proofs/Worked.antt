@@ -15,7 +15,7 @@ use Rattle.rz_sys.specs.Answer.{Called, answer, cut_count}
 call : ℕ → ℕ → ℕ → ℕ → List ℕ
 call number a b c = number ∷ 0 ∷ c ∷ 0 ∷ 0 ∷ 0 ∷ b ∷ a ∷ replicate 8 0
 
--- four bytes to read and write of which three are open, and four to read right behind them
+-- four bytes to read and write, and right behind them four to read of which three are open
 memory : Regions
 memory =
     record { base = 0x2000; bytes = 1 ∷ 2 ∷ 3 ∷ 4 ∷ []; opened = 4; perm = read_write }
