@@ -1,16 +1,15 @@
 -- Worked rows of labels and places, counted by hand.
-use Rattle.std.proofs.Common.{◌≡◌, ℕ, ◌+◌, List, [], ◌∷◌, Option, Some, None, refl}
+use Rattle.std.proofs.Common.{◌≡◌, ◌+◌, [], ◌∷◌, Some, None, refl}
 use Rattle.std.specs.Prelude.{slice_get}
 use Rattle.rz_flags.specs.declared.Cond.TheVariants as conds
 use Rattle.rz_isa.specs.declared.rows.Form.TheVariants.{Near, Short}
 use Rattle.rz_isa.specs.declared.instruction.Insn.TheVariants as insn
 use Rattle.rz_isa.specs.declared.item_list.Label.TheVariants as label
-use Rattle.rz_isa.specs.declared.item_list.Item.{Item}
 use Rattle.rz_isa.specs.declared.item_list.Item.TheVariants as item
 use Rattle.rz_isa.specs.declared.item_list.Slot.{Slot}
 use Rattle.rz_isa.specs.declared.fragment_list.Fragments.{Fragments}
 use Rattle.rz_isa.specs.Items.{slots, label_number, label_address, resolved, store}
-use Rattle.rz_isa.specs.Plan.{place, code_end, offset, Reaches}
+use Rattle.rz_isa.specs.Plan.{place, code_end, offset}
 
 -- fragments at 16, 32 and 48, the last without items, and a routine of one item
 code : Fragments

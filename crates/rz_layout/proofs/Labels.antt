@@ -20,7 +20,7 @@ use Rattle.rz_layout.specs.declared.piece.Piece.{Piece}
 use Rattle.rz_layout.specs.declared.order.Order.{Order}
 use Rattle.rz_layout.proofs.Ordered.{slot_of, length-list_slots, length-slots_from}
 
-none_is_some : {X : Type 0} (a : X) → None ≡ Some a → ⊥
+pub none_is_some : {X : Type 0} (a : X) → None ≡ Some a → ⊥
 none_is_some a e = cc
 
 pub some_is_some : {X : Type 0} (a b : X) → Some a ≡ Some b → a ≡ b

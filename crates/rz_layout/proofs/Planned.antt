@@ -20,9 +20,6 @@ use Rattle.rz_isa.specs.declared.fragment_list.Fragments.{Fragments}
 use Rattle.rz_isa.specs.Canonical.{chosen}
 use Rattle.rz_isa.specs.Within.{SpelledWithin}
 use Rattle.rz_isa.specs.Emitted.{Emits, HasSpelling}
-use Rattle.rz_num.specs.declared.width.Width.TheVariants.{W64}
-use Rattle.rz_isa.specs.declared.instruction.Place.TheVariants as mem
-use Rattle.rz_isa.specs.declared.instruction.Operand.TheVariants as operand
 use Rattle.rz_isa.specs.Items.{Places, Addresses, slots, label_number, label_address, beside, resolved, store}
 use Rattle.rz_isa.specs.Plan.{is_inner, near_len, jump_len, item_len, spelled_len, form_at, place, code_end, Reaches, InReach, IsPlaced, IsPlan, IsLeastPlan}
 use Rattle.rz_encode.specs.Length.{SameLengths}

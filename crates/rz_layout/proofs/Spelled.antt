@@ -9,8 +9,6 @@ use Rattle.rz_isa.specs.declared.rows.Row.{Row}
 use Rattle.rz_isa.specs.declared.rows.Form.TheVariants.{Near, Short}
 use Rattle.rz_isa.specs.declared.instruction.Insn.{Insn}
 use Rattle.rz_isa.specs.declared.instruction.Insn.TheVariants as insn
-use Rattle.rz_isa.specs.declared.instruction.Place.TheVariants as place
-use Rattle.rz_isa.specs.declared.instruction.Operand.TheVariants as operand
 use Rattle.rz_isa.specs.Having.{is_extended, is_memory}
 use Rattle.rz_isa.specs.Canonical.{offset, Chosen, chosen, canonical, spelled_at}
 use Rattle.rz_isa.specs.Insn.{target_of}

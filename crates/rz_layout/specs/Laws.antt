@@ -13,12 +13,13 @@ LeastPlansAreOne =
     → IsPlan rows frags base a → IsLeastPlan rows frags base a
     → IsPlan rows frags base b → IsLeastPlan rows frags base b → a ≡ b
 
--- no item is at a lower place than in the least plan, or shorter
-pub record IsNoShorter (rows : List Row) (frags : Fragments) (base : ℕ) (forms other : List Form) : Type 0 where
-  pub places : (k : ℕ) → place rows frags base forms k ≤ place rows frags base other k
-  pub items : (k : ℕ) (i : Item) → item_len rows i (form_at forms k) ≤ item_len rows i (form_at other k)
+-- no item is at a lower place in the second than in the first, or shorter
+pub record IsNoShorter (rows : List Row) (frags : Fragments) (base : ℕ) (a b : List Form) : Type 0 where
+  pub places : (k : ℕ) → place rows frags base a k ≤ place rows frags base b k
+  pub items : (k : ℕ) (i : Item) → item_len rows i (form_at a k) ≤ item_len rows i (form_at b k)
 
 abbrev pub LeastIsShortest : Type 0
 LeastIsShortest =
     (rows : List Row) (frags : Fragments) (base : ℕ) (forms other : List Form)
-    → IsLeastPlan rows frags base forms → IsPlan rows frags base other → IsNoShorter rows frags base forms other
+    → IsLeastPlan rows frags base forms → IsPlan rows frags base other
+    → IsNoShorter rows frags base forms other

@@ -12,7 +12,7 @@ use Rattle.rz_isa.specs.declared.fragment_list.Fragment.{Fragment}
 use Rattle.rz_isa.specs.declared.fragment_list.Fragments.{Fragments}
 use Rattle.rz_isa.specs.Insn.{target_of}
 use Rattle.rz_isa.specs.Targets.{NamesLow}
-use Rattle.rz_isa.specs.Items.{slots}
+use Rattle.rz_isa.specs.Items.{Places, slots}
 use Rattle.rz_isa.specs.Plan.{place, is_inner}
 use Rattle.rz_layout.specs.declared.plan.Layout.{Layout}
 
@@ -60,7 +60,11 @@ form_of n = if n == 0 then Near else Short
 abbrev pub forms_of : Layout → List Form
 forms_of laid = map form_of laid.forms
 
+-- the first so many places, in their order
+pub record AreFirst (count : ℕ) (places : Places) (list : List ℕ) : Type 0 where
+  pub each : length list ≡ count
+  pub at : (k : ℕ) → k < count → slice_index list k ≡ places k
+
 -- the places of the items, in their order
-pub record ArePlaces (rows : List Row) (frags : Fragments) (base : ℕ) (forms : List Form) (list : List ℕ) : Type 0 where
-  pub each : length list ≡ length (slots frags)
-  pub at : (k : ℕ) → k < length (slots frags) → slice_index list k ≡ place rows frags base forms k
+abbrev pub ArePlaces : List Row → Fragments → ℕ → List Form → List ℕ → Type 0
+ArePlaces rows frags base forms list = AreFirst (length (slots frags)) (place rows frags base forms) list

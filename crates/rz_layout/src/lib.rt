@@ -1,6 +1,10 @@
 //! The layout of a new file's code: the form of each jump, and the place of each item.
 #![tactic(auto)]
 
+#[cfg(test)]
+mod example;
+#[cfg(test)]
+mod fit;
 pub mod laws;
 pub mod layout;
 mod order;
@@ -10,8 +14,5 @@ pub mod plan;
 mod settle;
 mod sizes;
 mod span;
-
-#[cfg(test)]
-mod fit;
 #[cfg(test)]
 mod tests;
