@@ -1,0 +1,20 @@
+use Rattle.std.proofs.Common.{refl}
+use Rattle.rz_trace.proofs.PrintLaws.{text_of-parts}
+use Rattle.rz_trace.proofs.printer.print_trace.Goals as goal
+
+pub returns : goal.returns
+returns c =
+    let nodes = c.in_ok-nodes.nodes in
+    let edges = c.in_ok-edges.edges in
+    record {
+      text = record {
+        nodes = nodes;
+        edges = edges;
+        nodes_ascend = c.in_ok-nodes.ensures.ascending;
+        edges_ascend = c.in_ok-edges.ensures.ascending;
+        same_nodes = c.in_ok-nodes.ensures.same;
+        same_edges = c.in_ok-edges.ensures.same;
+        value = rw (text_of-parts nodes edges)
+            (rw (c.in_ok-push_all-2.ensures.ok, c.in_ok-print_edges.ensures, c.in_ok-print_nodes.ensures, c.in_ok-push_all.ensures.ok, c.new-text.ensures, c.as_slice.ensures.value, c.as_slice-2.ensures) refl);
+      };
+    }

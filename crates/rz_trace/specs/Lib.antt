@@ -1,0 +1,6 @@
+pub mod Calls
+pub mod Fault
+pub mod Grammar
+pub mod Order
+pub mod Printed
+pub mod Value
