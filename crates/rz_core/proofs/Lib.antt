@@ -6,3 +6,4 @@ pub mod EndLaws
 pub mod MadeLaws
 pub mod DebloatLaws
 pub mod RunLaws
+pub mod FormRows
