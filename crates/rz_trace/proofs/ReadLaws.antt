@@ -27,11 +27,11 @@ record_from-more : (kept : Record) (es : List Entry) (e : Entry) → fold with_e
 record_from-more kept [] e = refl
 record_from-more kept (f ∷ es) e = record_from-more (with_entry kept f) es e
 
-record_from-some : (es : List Entry) (o : Option Entry) → record_from (es ++ cons_option o []) ≡ with_some (record_from es) o
+pub record_from-some : (es : List Entry) (o : Option Entry) → record_from (es ++ cons_option o []) ≡ with_some (record_from es) o
 record_from-some es None = ap record_from (append-nil es)
 record_from-some es (Some e) = record_from-more no_record es e
 
-last_or-more : (o : Option Entry) (es : List Entry) (e : Entry) → last_or o (es ++ e ∷ []) ≡ Some e
+pub last_or-more : (o : Option Entry) (es : List Entry) (e : Entry) → last_or o (es ++ e ∷ []) ≡ Some e
 last_or-more o [] e = refl
 last_or-more o (f ∷ es) e = last_or-more (Some f) es e
 
@@ -40,7 +40,7 @@ last_or-some : (kept : Record) (last : Option Entry) (n : ℕ) (es : List Entry)
 last_or-some kept last n es None h = cc
 last_or-some kept last n es (Some e) h = last_or-more None es e
 
-entries-more : (earlier : List Line) (line : Line) → entries (earlier ++ line ∷ []) ≡ entries earlier ++ cons_option (entry_of (words line.1)) []
+pub entries-more : (earlier : List Line) (line : Line) → entries (earlier ++ line ∷ []) ≡ entries earlier ++ cons_option (entry_of (words line.1)) []
 entries-more earlier line = filter_map-append (λ (l : Line). entry_of (words l.1)) earlier (line ∷ [])
 
 pub IsDraft-more : (text : List ℕ) (kept new : Record) (last next : Option Entry) (passed count : ℕ) (line : Line) (rest : List Line)

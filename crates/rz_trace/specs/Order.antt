@@ -16,8 +16,9 @@ node_follows (Some Begin) at = true
 node_follows (Some (Node before)) at = nat_lt before at
 node_follows _ at = false
 
--- an edge stands behind a node or a lower edge
+-- an edge stands behind the first line, a node or a lower edge
 abbrev pub edge_follows : Option Entry → ℕ → ℕ → Bool
+edge_follows (Some Begin) from to = true
 edge_follows (Some (Node before)) from to = true
 edge_follows (Some (Edge first second)) from to = nat_lt first from || first == from && nat_lt second to
 edge_follows _ from to = false

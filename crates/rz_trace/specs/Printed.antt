@@ -1,11 +1,13 @@
 -- The text of a record: the first line, the nodes and then the edges in ascending order, the last line.
-use Rattle.std.specs.Prelude.{◌≡◌, ℕ, false, List, [], ◌∷◌, ◌++◌, codes, flat_map, map, IsSorted}
+use Rattle.std.specs.Prelude.{◌≡◌, ℕ, false, List, [], ◌∷◌, ◌++◌, codes, flat_map, map, IsSorted, ◌≤◌, length, true, All, None}
 use Rattle.std.specs.Ordering.{nat_cmp}
 use Rattle.std.specs.List.{join_with_byte}
+use Rattle.rz_trace.specs.Fault.{fault_of}
+use Rattle.rz_trace.specs.Value.{record_of}
 use Rattle.std.specs.List.Sorted.{IsPermutation}
 use Rattle.std.specs.Fmt.{digits}
 use Rattle.rz_aset.specs.declared.kept.Record.{Record}
-use Rattle.rz_aset.specs.Sets.{edge_cmp}
+use Rattle.rz_aset.specs.Sets.{edge_cmp, has}
 use Rattle.rz_trace.specs.declared.entry.Entry.{Entry}
 use Rattle.rz_trace.specs.declared.entry.Entry.TheVariants.{Begin, Node, Edge, End}
 
@@ -44,3 +46,19 @@ pub record IsPrinted (kept : Record) (text : List ℕ) : Type 0 where
   pub same_nodes : IsPermutation kept.nodes nodes
   pub same_edges : IsPermutation kept.edges edges
   pub value : text ≡ text_of nodes edges
+
+-- the ends of the edges are among the nodes
+abbrev pub HasEnds : Record → Type 0
+HasEnds kept = All (λ edge. (has kept.nodes edge.0 ≡ true) × (has kept.nodes edge.1 ≡ true)) kept.edges
+
+-- a text is in the grammar, and lists a record's nodes and edges in ascending order
+pub record IsReadAs (text : List ℕ) (kept : Record) : Type 0 where
+  pub sound : fault_of text ≡ None
+  pub nodes_ascend : IsSorted nat_cmp (record_of text).nodes
+  pub edges_ascend : IsSorted edge_cmp (record_of text).edges
+  pub same_nodes : IsPermutation kept.nodes (record_of text).nodes
+  pub same_edges : IsPermutation kept.edges (record_of text).edges
+
+-- a record is read back from its text, where that is no longer than a trace file may be
+abbrev pub ReadsBack : List ℕ → Record → Type 0
+ReadsBack text kept = HasEnds kept → length text ≤ 16777216 → IsReadAs text kept

@@ -10,3 +10,6 @@ mod reader;
 pub use error::TraceFault;
 pub use printer::print_trace;
 pub use reader::read_trace;
+
+#[cfg(test)]
+mod tests;

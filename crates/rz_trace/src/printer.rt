@@ -2,7 +2,7 @@
 
 ghost use Rattle.std.specs.Prelude.{◌≡◌, ◌++◌, OnOk, IfOk};
 ghost use Rattle.rz_trace.specs.declared.entry.Entry.TheVariants as entry;
-ghost use Rattle.rz_trace.specs.Printed.{ended_line, IsPrinted};
+ghost use Rattle.rz_trace.specs.Printed.{ended_line, IsPrinted, ReadsBack};
 ghost use Rattle.rz_trace.specs.Calls.Printing.{edge_lines, node_lines};
 
 use rz_aset::Record;
@@ -13,7 +13,11 @@ use std::alloc::Global;
 /// line. It refuses for want of memory alone.
 pub fn print_trace(alloc: Global, kept: &Record) -> Result<Bytes, OutOfMemory>
     ensures text { IfOk result (IsPrinted kept.now) }
+    ensures read_back { IfOk result (λ text. ReadsBack text kept.now) }
 {
+    // Each node and each edge is listed once.
+    let _ = kept.nodes.as_slice();
+    let _ = kept.edges.as_slice();
     let nodes = kept.nodes.sorted(alloc)?;
     let edges = kept.edges.sorted(alloc)?;
     let mut text = Bytes::new(alloc);

@@ -124,7 +124,7 @@ fn edge_follows(last: Option<Entry>, from: u64, to: u64) -> bool
     ensures { result ≡ edge_follows last from to }
 {
     match last {
-        Some(Entry::Node(_)) => true,
+        Some(Entry::Begin | Entry::Node(_)) => true,
         Some(Entry::Edge(first, second)) => first < from || first == from && second < to,
         _ => false,
     }
