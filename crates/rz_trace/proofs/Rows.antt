@@ -4,6 +4,8 @@ use Rattle.std.specs.Prelude.{codes}
 use Rattle.rz_text.specs.Number.{hexadecimal}
 use Rattle.rz_trace.specs.declared.error.TraceFault.TheVariants.{BadLine}
 use Rattle.rz_trace.specs.Grammar.{entry_of}
+use Rattle.std.specs.Fmt.{digits}
+use Rattle.rz_trace.specs.Printed.{text_of}
 use Rattle.rz_trace.specs.Fault.{fault_of}
 use Rattle.rz_trace.specs.Value.{record_of}
 
@@ -19,13 +21,23 @@ other_version : fault_of (codes "razor-trace 3") ≡ Some (BadLine 1)
 unfolding entry_of
 other_version = refl
 
-read_text : List ℕ
-read_text = codes "razor-trace 1\nn 0x401000\nn 0x401005\ne 0x401000 0x401005\nend"
+nodes : List ℕ
+nodes = 0x401000 ∷ 0x401005 ∷ 0x401007 ∷ 0x40100c ∷ []
 
-no_fault : fault_of read_text ≡ None
-unfolding entry_of hexadecimal read_text
+edges : List (ℕ × ℕ)
+edges = (0x401000, 0x401005) ∷ (0x401005, 0x401007) ∷ (0x401007, 0x40100c) ∷ []
+
+text : List ℕ
+text = codes "razor-trace 1\nn 0x401000\nn 0x401005\nn 0x401007\nn 0x40100c\ne 0x401000 0x401005\ne 0x401005 0x401007\ne 0x401007 0x40100c\nend\n"
+
+what_is_printed : text_of nodes edges ≡ text
+unfolding digits nodes edges text
+what_is_printed = refl
+
+no_fault : fault_of text ≡ None
+unfolding entry_of hexadecimal text
 no_fault = refl
 
-what_is_read : record_of read_text ≡ record { nodes = 4198400 ∷ 4198405 ∷ []; edges = (4198400, 4198405) ∷ [] }
-unfolding entry_of hexadecimal read_text
+what_is_read : record_of text ≡ record { nodes = nodes; edges = edges }
+unfolding entry_of hexadecimal text nodes edges
 what_is_read = refl
