@@ -3,6 +3,8 @@ pub mod CourseLaws
 pub mod CauseLaws
 pub mod ExactLaws
 pub mod EndLaws
+pub mod UnionLaws
+pub mod InputLaws
 pub mod MadeLaws
 pub mod DebloatLaws
 pub mod RunLaws

@@ -1,5 +1,6 @@
 -- The forms of the command line, as lists of words.
 use Rattle.std.specs.Prelude.{ℕ, Bool, ◌&&◌, if◌then◌else◌, nat_le, List, [], ◌∷◌, length, codes, bytes_eq, Option, Some, None, option_map, option_and_then, Result, Ok, Err}
+use Rattle.std.specs.List.{list_all}
 use Rattle.std.specs.Option.{option_or}
 use Rattle.std.specs.Result.{result_ok}
 use Rattle.rz_text.specs.Number.{decimal, hexadecimal}
@@ -17,23 +18,27 @@ limit_of word = number_within 1 1000000000 (decimal word)
 abbrev pub is_name : List ℕ → Bool
 is_name word = nat_le 1 (length word)
 
--- `debloat EXE - exact LIMIT OUT INPUT`
+-- 1 to 1024 names
+abbrev pub are_inputs : List (List ℕ) → Bool
+are_inputs words = nat_le 1 (length words) && nat_le (length words) 1024 && list_all is_name words
+
+-- `debloat EXE - exact LIMIT OUT INPUT..`
 pub record Debloat : Type 0 where
   pub exe : List ℕ
   pub limit : ℕ
   pub out : List ℕ
   pub inputs : List (List ℕ)
 
-abbrev pub is_debloat : List ℕ → List ℕ → List ℕ → List ℕ → List ℕ → List ℕ → Bool
-is_debloat command exe classes level out input =
+abbrev pub is_debloat : List ℕ → List ℕ → List ℕ → List ℕ → List ℕ → List (List ℕ) → Bool
+is_debloat command exe classes level out inputs =
     bytes_eq command (codes "debloat") && is_name exe && bytes_eq classes (codes "-") && bytes_eq level (codes "exact")
-    && is_name out && is_name input
+    && is_name out && are_inputs inputs
 
 -- the words of `debloat`
 abbrev pub debloat_of : List (List ℕ) → Option Debloat
-debloat_of (command ∷ exe ∷ classes ∷ level ∷ limit ∷ out ∷ input ∷ []) =
-    if is_debloat command exe classes level out input
-    then option_map (λ n. record { exe = exe; limit = n; out = out; inputs = input ∷ [] }) (limit_of limit)
+debloat_of (command ∷ exe ∷ classes ∷ level ∷ limit ∷ out ∷ inputs) =
+    if is_debloat command exe classes level out inputs
+    then option_map (λ n. record { exe = exe; limit = n; out = out; inputs = inputs }) (limit_of limit)
     else None
 debloat_of _ = None
 

@@ -3,13 +3,13 @@
 ghost use Rattle.std.specs.Prelude.{◌≡◌, ◌≤◌, IfOk, IfErr};
 ghost use Rattle.rz_outside.specs.StoreAnswers.{SameFiles};
 ghost use Rattle.rz_outside.specs.StoreCalls.{store_calls};
-ghost use Rattle.rz_core.specs.Calls.Held.{debloating, HasSteps};
+ghost use Rattle.rz_core.specs.Calls.Held.{debloating, HasRuns};
 ghost use Rattle.rz_core.specs.Calls.Making.{IsMade, IsUnmade};
 ghost use Rattle.rz_core.specs.Calls.Carried.{IsCarriedOut};
 
 use crate::answer::Answer;
 use crate::making::{Made, make};
-use crate::reading::{Program, read_program};
+use crate::reading::{read_accepted, read_inputs};
 use crate::status::Status;
 use crate::words::Debloat;
 use crate::writing::write;
@@ -18,7 +18,7 @@ use std::alloc::Global;
 
 // Reads what the command reads, and makes the new file. No file changes.
 fn prepare<S: Store>(alloc: Global, d: &Debloat<'_>, store: &mut S) -> Result<Made, Status>
-    requires { HasSteps d.now }
+    requires { HasRuns d.now }
     ensures telling { S.told store.new ≡ S.told store.old }
     ensures kept { SameFiles (S.files store.old) (S.files store.new) }
     ensures count { S.faults store.old ≤ S.faults store.new }
@@ -27,13 +27,14 @@ fn prepare<S: Store>(alloc: Global, d: &Debloat<'_>, store: &mut S) -> Result<Ma
     ensures cause { IfErr result
         (IsUnmade (debloating d.now) (store_calls S.Store store.old store.new)) }
 {
-    let Program { elf, input } = read_program(alloc, store, d.exe, d.input)?;
-    make(alloc, &elf, &input, d.limit)
+    let elf = read_accepted(alloc, store, d.exe)?;
+    let inputs = read_inputs(alloc, store, d.inputs)?;
+    make(alloc, &elf, inputs.as_slice(), d.limit)
 }
 
-/// `debloat EXE - exact LIMIT OUT INPUT`: the report, or the refusal.
+/// `debloat EXE - exact LIMIT OUT INPUT..`: the report, or the refusal.
 pub fn debloat<S: Store>(alloc: Global, d: &Debloat<'_>, store: &mut S) -> Result<Answer, Status>
-    requires { HasSteps d.now }
+    requires { HasRuns d.now }
     ensures telling { S.told store.new ≡ S.told store.old }
     ensures count { S.faults store.old ≤ S.faults store.new }
     ensures carried { IsCarriedOut (debloating d.now) (store_calls S.Store store.old store.new) result }

@@ -1,14 +1,15 @@
 //! Reads the files of the store: executables and inputs.
 
 ghost use Rattle.std.specs.Prelude.{◌≡◌, ◌≤◌, ◌∷◌, [], ℕ, List, None, IfOk, IfErr};
+ghost use Rattle.std.specs.List.{All};
 ghost use Rattle.rz_outside.specs.StoreAnswers.{SameFiles, ReadsFirst};
 ghost use Rattle.rz_outside.specs.StoreCalls.{store_calls, Held};
 ghost use Rattle.rz_elf.specs.Elf.{fault_of};
 ghost use Rattle.rz_sys.specs.Input.{IsValid};
 ghost use Rattle.rz_core.specs.Inputs.{HoldsInput};
-ghost use Rattle.rz_core.specs.Reading.{Accepted, InputNumber, FileRefusal, ReadRefusal, wanted, wanted_program};
+ghost use Rattle.rz_core.specs.Reading.{Accepted, InputNumber, FileRefusal, ReadRefusal, wanted, wanted_inputs, wanted_program};
 ghost use Rattle.rz_core.specs.Calls.Carried.{IsUnread};
-ghost use Rattle.rz_core.specs.Calls.Programs.{HoldsProgram, input_refusal as input_refusal_of};
+ghost use Rattle.rz_core.specs.Calls.Programs.{HoldsInputs, HoldsProgram, input_refusal as input_refusal_of};
 
 use crate::status::Status;
 use rz_elf::elf::Elf;
@@ -107,6 +108,31 @@ fn input_refusal(error: InputError, number: u64) -> Status
             line,
         },
     }
+}
+
+/// The inputs that the files of these names hold, read in order, or the refusal of the first that is refused.
+pub fn read_inputs<S: Store>(
+    alloc: Global,
+    store: &mut S,
+    names: &[Text],
+) -> Result<Vec<Input>, Status>
+    ensures telling { S.told store.new ≡ S.told store.old }
+    ensures kept { SameFiles (S.files store.old) (S.files store.new) }
+    ensures count { S.faults store.old ≤ S.faults store.new }
+    ensures valid { IfOk result (λ inputs. All IsValid inputs.items) }
+    ensures read { IfOk result (λ inputs.
+        HoldsInputs (Held (store_calls S.Store store.old store.new)) 1 names.now inputs.items) }
+    ensures cause { IfErr result
+        (IsUnread (wanted_inputs 1 names.now) (store_calls S.Store store.old store.new)) }
+{
+    let mut inputs = Vec::new(alloc);
+    for (k, name) in names.iter().enumerate() {
+        let input = read_input(alloc, store, name, k as u64 + 1)?;
+        let Ok(()) = inputs.push(input) else {
+            return Err(Status::OutOfMemory);
+        };
+    }
+    Ok(inputs)
 }
 
 /// An executable and its one input, or the refusal of the first that is refused.

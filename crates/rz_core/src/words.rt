@@ -1,21 +1,23 @@
 //! The words of the command line.
 
-ghost use Rattle.std.specs.Prelude.{◌≡◌, ◌≤◌, MatchOption, IfSome, Some, None};
+ghost use Rattle.std.specs.Prelude.{◌≡◌, ◌≤◌, IsTrue, MatchOption, IfSome, Some, None, length};
+ghost use Rattle.std.specs.List.{list_all};
 ghost use Rattle.rz_text.specs.Number.{decimal as decimal_number};
-ghost use Rattle.rz_core.specs.Words.{form_of, debloat_of, check_of, disasm_of, generate_of, run_of, count_of, address_of, functions_of, is_check as is_check_of, is_disasm as is_disasm_of, is_generate as is_generate_of, is_run as is_run_of, is_name as is_name_of, is_debloat as is_debloat_of, number_within as number_within_of, limit_of};
-ghost use Rattle.rz_core.specs.Calls.Held.{debloat_words, check_words, disasm_words, generate_words, run_words, form_words, HasSteps, HasFunctions, IsInRange};
+ghost use Rattle.rz_core.specs.Words.{form_of, debloat_of, check_of, disasm_of, generate_of, run_of, count_of, address_of, functions_of, is_check as is_check_of, is_disasm as is_disasm_of, is_generate as is_generate_of, is_run as is_run_of, is_name as is_name_of, is_debloat as is_debloat_of, are_inputs as are_inputs_of, number_within as number_within_of, limit_of};
+ghost use Rattle.rz_core.specs.Calls.Held.{debloat_words, check_words, disasm_words, generate_words, run_words, form_words, HasRuns, HasFunctions, IsInRange};
 
 use rz_num::Text;
 use rz_text::{decimal, hexadecimal};
 
-/// `debloat EXE - exact LIMIT OUT INPUT`.
+/// `debloat EXE - exact LIMIT OUT INPUT..`.
 #[derive(Drop)]
 pub struct Debloat<'a> {
     pub exe: &'a Text,
     /// In steps.
     pub limit: u64,
     pub out: &'a Text,
-    pub input: &'a Text,
+    /// 1 to 1024 names.
+    pub inputs: &'a [Text],
 }
 
 /// `check EXE`.
@@ -104,17 +106,17 @@ fn is_check(command: &Text, exe: &Text) -> bool
 fn debloat_form(words: &Vec<Text>) -> Option<Debloat<'_>>
     ensures form { MatchOption result (debloat_of words.now.items ≡ None)
         (λ d. debloat_of words.now.items ≡ Some (debloat_words d)) }
-    ensures steps { IfSome result HasSteps }
+    ensures runs { IfSome result HasRuns }
 {
     match words.as_slice() {
-        [command, exe, classes, level, limit, out, input]
-            if is_debloat(command, exe, classes, level, out, input) => {
+        [command, exe, classes, level, limit, out, inputs @ ..]
+            if is_debloat(command, exe, classes, level, out, inputs) => {
             let limit = steps(limit)?;
             Some(Debloat {
                 exe,
                 limit,
                 out,
-                input,
+                inputs,
             })
         }
         _ => None,
@@ -127,16 +129,17 @@ fn is_debloat(
     classes: &Text,
     level: &Text,
     out: &Text,
-    input: &Text,
+    inputs: &[Text],
 ) -> bool
-    ensures { result ≡ is_debloat_of command.now exe.now classes.now level.now out.now input.now }
+    ensures is { result ≡ is_debloat_of command.now exe.now classes.now level.now out.now inputs.now }
+    ensures some { IsTrue result → 1 ≤ length inputs.now }
 {
     command.as_slice() == "debloat"
         && is_name(exe)
         && classes.as_slice() == "-"
         && level.as_slice() == "exact"
         && is_name(out)
-        && is_name(input)
+        && are_inputs(inputs)
 }
 
 fn disasm_form(words: &Vec<Text>) -> Option<Disasm<'_>>
@@ -202,6 +205,20 @@ fn is_name(word: &Text) -> bool
     ensures { result ≡ is_name_of word.now }
 {
     1 <= word.as_slice().len()
+}
+
+// From 1 to 1024 names.
+fn are_inputs(words: &[Text]) -> bool
+    ensures are { result ≡ are_inputs_of words.now }
+    ensures some { IsTrue result → 1 ≤ length words.now }
+{
+    1 <= words.len() && words.len() <= 1024 && all_names(words)
+}
+
+fn all_names(words: &[Text]) -> bool
+    ensures { result ≡ list_all is_name_of words.now }
+{
+    words.iter().all(|word| is_name(word))
 }
 
 // How many steps a run may take.

@@ -1,5 +1,5 @@
 -- Forms as the code holds them.
-use Rattle.std.specs.Prelude.{◌≤◌, [], ◌∷◌}
+use Rattle.std.specs.Prelude.{◌≤◌, length}
 use Rattle.rz_core.specs.declared.words.Debloat.{Debloat as HeldDebloat}
 use Rattle.rz_core.specs.declared.words.Check.{Check as HeldCheck}
 use Rattle.rz_core.specs.declared.words.Disasm.{Disasm as HeldDisasm}
@@ -16,7 +16,7 @@ use Rattle.rz_core.specs.Ran.{run_command}
 use Rattle.rz_core.specs.Generated.{generate_command}
 
 abbrev pub debloat_words : HeldDebloat → Debloat
-debloat_words d = record { exe = d.exe.now; limit = d.limit; out = d.out.now; inputs = d.input.now ∷ [] }
+debloat_words d = record { exe = d.exe.now; limit = d.limit; out = d.out.now; inputs = d.inputs.now }
 
 abbrev pub check_words : HeldCheck → Check
 check_words c = record { exe = c.exe.now }
@@ -37,9 +37,9 @@ form_words (held.Disasm d) = Disassembling (disasm_words d)
 form_words (held.Generate g) = Generating (generate_words g)
 form_words (held.Run r) = Running (run_words r)
 
--- a debloating traces at least one step
-abbrev pub HasSteps : HeldDebloat → Type 0
-HasSteps d = 1 ≤ d.limit
+-- a debloating traces at least one step of at least one run
+abbrev pub HasRuns : HeldDebloat → Type 0
+HasRuns d = (1 ≤ d.limit) × (1 ≤ length d.inputs.now)
 
 -- a generated program has 1 to 4000 functions
 abbrev pub HasFunctions : HeldGenerate → Type 0
@@ -47,7 +47,7 @@ HasFunctions g = (1 ≤ g.count) × (g.count ≤ 4000)
 
 -- the numbers of a form are in their ranges
 abbrev pub IsInRange : HeldForm → Type 0
-IsInRange (held.Debloat d) = HasSteps d
+IsInRange (held.Debloat d) = HasRuns d
 IsInRange (held.Check c) = Unit {0}
 IsInRange (held.Disasm d) = Unit {0}
 IsInRange (held.Generate g) = HasFunctions g

@@ -1,5 +1,5 @@
--- What is made of a file and an input, and when it is refused.
-use Rattle.std.specs.Prelude.{◌≡◌, ℕ, List, [], ◌∷◌, length}
+-- What is made of a file and inputs, and when it is refused.
+use Rattle.std.specs.Prelude.{◌≡◌, ℕ, List, length}
 use Rattle.rz_outside.specs.StoreCalls.{StoreCalls, Held}
 use Rattle.rz_elf.specs.Elf.{Image}
 use Rattle.rz_sys.specs.declared.input.Input.{Input}
@@ -13,7 +13,8 @@ use Rattle.rz_core.specs.Decoding.{decode_early}
 use Rattle.rz_core.specs.Texts.{report_text}
 use Rattle.rz_core.specs.Reading.{Course, HoldAll}
 use Rattle.rz_core.specs.Command.{Command}
-use Rattle.rz_core.specs.Debloated.{DebloatEnds}
+use Rattle.rz_machine.specs.LeftCode.{LeavesCode}
+use Rattle.rz_core.specs.Debloated.{DebloatEnds, traced}
 use Rattle.rz_core.specs.Causes.{EndsWith}
 
 -- a refusal that ends a command, or want of memory
@@ -27,9 +28,15 @@ EndRefusalOf Refused End answer = End answer
 abbrev pub EndRefusal : (Status → Type 0) → Status → Type 0
 EndRefusal End answer = EndRefusalOf (kind_of answer) End answer
 
--- why nothing was made: the run left the code, or an operand is out of reach, or there is no room for the parts, or no memory
-abbrev pub MakeRefusal : ℕ → List ℕ → Input → Status → Type 0
-MakeRefusal limit x input answer = EndRefusal (DebloatEnds limit x (input ∷ [])) answer
+-- why nothing was made: a run left the code, or an operand is out of reach, or there is no room for the parts, or no memory
+abbrev pub MakeRefusal : ℕ → List ℕ → List Input → Status → Type 0
+MakeRefusal limit x inputs answer = EndRefusal (DebloatEnds limit x inputs) answer
+
+-- why the run on the input of this number wasn't recorded whole: it left the code, or there was no memory
+abbrev pub RunRefusal : ℕ → ℕ → List ℕ → Input → Status → Type 0
+RunRefusal number limit x input (status.LeftCode n address) = (n ≡ number) × LeavesCode decode_early limit (traced x input) address
+RunRefusal number limit x input status.OutOfMemory = Unit {0}
+RunRefusal number limit x input _ = ⊥
 
 -- the report of a kept set without sites
 abbrev pub plain_report : Image → Kept → List ℕ
