@@ -112,15 +112,10 @@ rep_or : (n : ℕ) → (n == 0 || n == 0xf3) ≡ true → rep_byte (is_rep n) �
 rep_or n h = grind (arith, nat_tests)
 
 pub rep_found : (r : F3Rule) (n : ℕ) → has_rep r n ≡ true → rep_byte (is_rep n) ≡ n
-rep_found f3s.Repeats n h = rep_or n h
-rep_found _ n h = grind (arith, nat_tests)
+rep_found r n h1 = grind (arith, nat_tests)
 
 pub single_width : (c : Size) (w : Width) → is_single c ≡ true → has_width c w ≡ true → least_width c ≡ w
-single_width sizes.B W8 s h = refl
-single_width sizes.Q W64 s h = refl
-single_width sizes.WQ W64 s h = refl
-single_width sizes.N W8 s h = refl
-single_width _ _ s h = absurd (cc)
+single_width c w h1 h2 = grind (arith, nat_tests)
 
 -- ---- the tests of a row's fields, one by one
 
@@ -162,18 +157,13 @@ can_of row f h = all_eight _ _ _ _ _ _ _ _ h.w h.reg h.rm h.cond h.imm h.rep h.r
 -- ---- REX.B of what is found
 
 nop_met : (m : OpMap) (o n : ℕ) → n ≡ 0 → is_met (b_demand ops.Nop m o) n ≡ true
-nop_met maps.Two o n e = refl
-nop_met maps.One o n e = elim (cases_Bool (o == 0x90)) [ inl y ↦ grind (arith, nat_tests) | inr k ↦ grind (arith, nat_tests) ]
+nop_met m o n h1 = grind (arith, nat_tests)
 
 pub least_place_b : (r : Option RmRule) → place_b (least_place r) ≡ 0
-least_place_b (Some rules.Any) = refl
-least_place_b _ = refl
+least_place_b r = grind (arith, nat_tests)
 
 least_b : (row : Row) → b_needed row (least row) ≡ 0
-least_b row = elim (cases_Bool (in_opcode row.rm row.span)) [
-  | inl y ↦ ap (λ k. if k then 0 else place_b (least_place row.rm)) y
-  | inr n ↦ ap (λ k. if k then 0 else place_b (least_place row.rm)) n ∙ least_place_b row.rm
-]
+least_b row = grind (arith, nat_tests)
 
 -- the exchange with the accumulator takes its register from the opcode
 exchange_met : (row : Row) (f g : Fields) (op : Op) → in_opcode row.rm row.span ≡ true → g.reg ≡ f.reg → is_met (b_demand op row.map (opcode_of row f)) (b_needed row f) ≡ true

@@ -30,30 +30,16 @@ Kept in_reg f g = g ≡ record f { reg = g.reg }
 Kept in_imm f g = g ≡ record f { imm = g.imm }
 
 pub first_is : (r : Reg) → is_first r ≡ true → regs.R 0 ≡ r
-first_is (regs.R n) e = ap regs.R (grind (arith, nat_tests))
-first_is (regs.High n) e = absurd (cc)
+first_is r h1 = grind (arith, nat_tests)
 
 pub with_place-step : (l : Letter) (p : Place) (f g : Fields) → with_place l p f ≡ Some g → (place_at l g ≡ p) × Kept (place_slot l) f g
-with_place-step letters.G (places.Reg r) f g e = let s = some_same _ g e in (ap (λ (k : Fields). places.Reg k.reg) (sym s), sym s ∙ (λ i. record f { reg = (s i).reg }))
-with_place-step letters.G (places.Mem m) f g e = absurd (cc)
-with_place-step letters.G (places.At a) f g e = absurd (cc)
-with_place-step letters.O (places.Reg r) f g e = let s = some_same _ g e in (ap (λ (k : Fields). places.Reg k.reg) (sym s), sym s ∙ (λ i. record f { reg = (s i).reg }))
-with_place-step letters.O (places.Mem m) f g e = absurd (cc)
-with_place-step letters.O (places.At a) f g e = absurd (cc)
-with_place-step letters.A (places.Reg r) f g e = let t = through (is_first r) f g e in (ap places.Reg (first_is r t.0), sym t.1)
-with_place-step letters.A (places.Mem m) f g e = absurd (cc)
-with_place-step letters.A (places.At a) f g e = absurd (cc)
-with_place-step _ p f g e = let s = some_same _ g e in (ap (λ (k : Fields). k.rm) (sym s), sym s ∙ (λ i. record f { rm = (s i).rm }))
+with_place-step l p f g h1 = grind (arith, nat_tests)
 
 pub with_operand-step : (l : Letter) (o : Operand) (f g : Fields) → with_operand l o f ≡ Some g → (operand_at l g ≡ o) × Kept (operand_slot l) f g
-with_operand-step letters.Imm (operands.Imm n) f g e = let s = some_same _ g e in (ap (λ (k : Fields). operands.Imm k.imm) (sym s), sym s ∙ (λ i. record f { imm = (s i).imm }))
-with_operand-step letters.Imm (operands.Place p) f g e = absurd (cc)
-with_operand-step l (operands.Place p) f g e = let t = with_place-step l p f g e in (ap operands.Place t.0, t.1)
-with_operand-step _ (operands.Imm n) f g e = absurd (cc)
+with_operand-step l o f g h1 = grind (arith, nat_tests)
 
 pub with_reg-step : (l : Letter) (r : Reg) (f g : Fields) → with_reg l r f ≡ Some g → (reg_at l g ≡ r) × Kept (reg_slot l) f g
-with_reg-step letters.A r f g e = let t = through (is_first r) f g e in (first_is r t.0, sym t.1)
-with_reg-step _ r f g e = let s = some_same _ g e in (ap (λ (k : Fields). k.reg) (sym s), sym s ∙ (λ i. record f { reg = (s i).reg }))
+with_reg-step l r f g h1 = grind (arith, nat_tests)
 
 pub with_number-step : (l : Letter) (n : ℕ) (f g : Fields) → with_number l n f ≡ Some g → (number_at l g ≡ n) × Kept (reg_slot l) f g
 with_number-step l n f g e = let t = with_reg-step l (regs.R n) f g e in (ap number_of t.0, t.1)
@@ -62,51 +48,31 @@ cut : (n k : ℕ) → k ≡ n → k < 2 ^ 8 → k % 2 ^ 8 ≡ n
 cut n k e lt = omega arith
 
 pub with_count-step : (l : Letter) (c : Count) (f g : Fields) → g.imm < 2 ^ 8 → with_count l c f ≡ Some g → (count_at l g ≡ c) × Kept (count_slot l) f g
-with_count-step letters.One (counts.Imm n) f g small e = let t = through (n == 1) f g e in (ap counts.Imm (sym (equal_is n 1 t.0)), sym t.1)
-with_count-step letters.One counts.Cl f g small e = absurd (cc)
-with_count-step letters.Cl (counts.Imm n) f g small e = absurd (cc)
-with_count-step letters.Cl counts.Cl f g small e = (refl, sym (some_same f g e))
-with_count-step _ (counts.Imm n) f g small e = let s = some_same _ g e in (ap counts.Imm (cut n g.imm (ap (λ (k : Fields). k.imm) (sym s)) small), sym s ∙ (λ i. record f { imm = (s i).imm }))
-with_count-step _ counts.Cl f g small e = absurd (cc)
+with_count-step l c f g h1 h2 = grind (arith, nat_tests)
 
 pub with_index-step : (l : Letter) (x : BitIndex) (f g : Fields) → g.imm < 2 ^ 8 → with_index l x f ≡ Some g → (index_at l g ≡ x) × Kept (index_slot l) f g
-with_index-step letters.Imm (indexes.Imm n) f g small e = let s = some_same _ g e in (ap indexes.Imm (cut n g.imm (ap (λ (k : Fields). k.imm) (sym s)) small), sym s ∙ (λ i. record f { imm = (s i).imm }))
-with_index-step letters.Imm (indexes.Reg n) f g small e = absurd (cc)
-with_index-step l (indexes.Reg n) f g small e = let t = with_number-step l n f g e in (ap indexes.Reg t.0, t.1)
-with_index-step _ (indexes.Imm n) f g small e = absurd (cc)
+with_index-step l x f g h1 h2 = grind (arith, nat_tests)
 
 -- ---- what another step leaves
 
 pub place_kept : (l : Letter) (t : Slot) (f g : Fields) → apart (place_slot l) t ≡ true → Kept t f g → place_at l g ≡ place_at l f
-place_kept letters.A t f g a k = refl
-place_kept letters.G in_reg f g a k = absurd (cc)
-place_kept letters.G _ f g a k = ap (λ (x : Fields). places.Reg x.reg) k
-place_kept letters.O in_reg f g a k = absurd (cc)
-place_kept letters.O _ f g a k = ap (λ (x : Fields). places.Reg x.reg) k
-place_kept _ in_rm f g a k = absurd (cc)
-place_kept _ _ f g a k = ap (λ (x : Fields). x.rm) k
+place_kept l t f g h1 h2 = grind (arith, nat_tests)
 
 pub reg_kept : (l : Letter) (t : Slot) (f g : Fields) → apart (reg_slot l) t ≡ true → Kept t f g → reg_at l g ≡ reg_at l f
-reg_kept letters.A t f g a k = refl
-reg_kept _ in_reg f g a k = absurd (cc)
-reg_kept _ _ f g a k = ap (λ (x : Fields). x.reg) k
+reg_kept l t f g h1 h2 = grind (arith, nat_tests)
 
 pub w_kept : (t : Slot) (f g : Fields) → Kept t f g → g.w ≡ f.w
-w_kept in_rm f g k = ap (λ (x : Fields). x.w) k
-w_kept _ f g k = ap (λ (x : Fields). x.w) k
+w_kept t f g h1 = grind (arith, nat_tests)
 
 pub cond_kept : (t : Slot) (f g : Fields) → Kept t f g → g.cond ≡ f.cond
-cond_kept in_rm f g k = ap (λ (x : Fields). x.cond) k
-cond_kept _ f g k = ap (λ (x : Fields). x.cond) k
+cond_kept t f g h1 = grind (arith, nat_tests)
 
 -- the immediate of a product stands before its operands
 place_imm : (l : Letter) (f g : Fields) → Kept (place_slot l) f g → g.imm ≡ f.imm
-place_imm letters.G f g k = ap (λ (x : Fields). x.imm) k
-place_imm _ f g k = ap (λ (x : Fields). x.imm) k
+place_imm l f g h1 = grind (arith, nat_tests)
 
 reg_imm : (l : Letter) (f g : Fields) → Kept (reg_slot l) f g → g.imm ≡ f.imm
-reg_imm letters.A f g k = ap (λ (x : Fields). x.imm) k
-reg_imm _ f g k = ap (λ (x : Fields). x.imm) k
+reg_imm l f g h1 = grind (arith, nat_tests)
 
 -- ---- two operands: what a step gave stays, if the next one changes another field
 
@@ -119,10 +85,7 @@ place_stays d p t f m g a k h = record { w = w_kept t m g k ∙ h.w; dst = place
 
 place_and : (d : Letter) (p : Place) (t : Slot) (Q : Type 0) (k : Fields → Option Fields) (f g : Fields) → apart (place_slot d) t ≡ true → ((m : Fields) → k m ≡ Some g → Q × Kept t m g) → option_and_then k (with_place d p f) ≡ Some g
     → PlaceIs d p f g × Q
-place_and d p t Q k f g a next e = option_and_then_some k (with_place d p f) g e (λ m em eg.
-    let x = with_place-step d p f m em in
-    let y = next m eg in
-    (place_stays d p t f m g a y.1 (record { w = w_kept (place_slot d) f m x.1; dst = x.0 }), y.0))
+place_and d p t Q k f g h1 h2 h3 = grind (arith, nat_tests)
 
 place_operand : (d s : Letter) (p : Place) (o : Operand) (f g : Fields) → apart (place_slot d) (operand_slot s) ≡ true → option_and_then (with_operand s o) (with_place d p f) ≡ Some g → PlaceIs d p f g × (operand_at s g ≡ o)
 place_operand d s p o f g a e = place_and d p (operand_slot s) _ (with_operand s o) f g a (λ m eg. with_operand-step s o m g eg) e
@@ -157,12 +120,10 @@ place_number_count d s c p n x f g small a e = option_and_then_some (with_count 
 -- ---- the condition's number
 
 pub cond_again : (c : Cond) → cond_of (number_of_cond c % 16) ≡ c
-cond_again conds.O = refl
-cond_again _ = refl
+cond_again c = grind (arith, nat_tests)
 
 rep_again : (rep : Bool) → is_rep (rep_byte rep) ≡ rep
-rep_again true = refl
-rep_again false = refl
+rep_again rep = grind (arith, nat_tests)
 
 -- ---- what is found builds the instruction
 

@@ -71,8 +71,7 @@ pub record First (test : Row → Bool) (rows : List Row) : Type 0 where
 
 before_next : (test : Row → Bool) (r : Row) (rows : List Row) (n : ℕ) → test r ≡ false → ((m : ℕ) (q : Row) → m < n → slice_get rows m ≡ Some q → test q ≡ false)
     → (k : ℕ) (s : Row) → k < suc n → slice_get (r ∷ rows) k ≡ Some s → test s ≡ false
-before_next test r rows n miss f zero s lt e = ap test (sym (some_same r s e)) ∙ miss
-before_next test r rows n miss f (suc k) s lt e = f k s (omega arith) e
+before_next test r rows n h1 h2 k s h3 h4 = grind (arith, nat_tests)
 
 pub first_of_rows : (test : Row → Bool) (rows : List Row) (m : ℕ) (q : Row) → slice_get rows m ≡ Some q → test q ≡ true → First test rows
 first_of_rows test [] m q at holds = absurd (grind arith)
@@ -87,16 +86,10 @@ first_of_rows test (r ∷ rows) (suc m) q at holds = elim (cases_Bool (test r)) 
 -- ---- the canonical row
 
 form_is : (a b : Form) → same_form a b ≡ true → a ≡ b
-form_is forms.Near forms.Near e = refl
-form_is forms.Short forms.Short e = refl
-form_is forms.Near forms.Short e = absurd (cc)
-form_is forms.Short forms.Near e = absurd (cc)
+form_is a b h1 = grind (arith, nat_tests)
 
 form_same : (a b : Form) → a ≡ b → same_form a b ≡ true
-form_same forms.Near forms.Near e = refl
-form_same forms.Short forms.Short e = refl
-form_same forms.Near forms.Short e = absurd (cc)
-form_same forms.Short forms.Near e = absurd (cc)
+form_same a b h1 = grind (arith, nat_tests)
 
 abbrev pub serves : Form → Insn → Row → Bool
 serves form x r = same_form r.form form && is_some (found r x)
@@ -192,11 +185,7 @@ has_chosen rows regular x form m q at same somewhere = chosen_some (λ r. found 
 -- ---- the canonical spelling
 
 rm_length : (rm : Option RmRule) (digit : Option ℕ) (code a b : ℕ) (p : Place) → length (rm_bytes rm digit code a p) ≡ length (rm_bytes rm digit code b p)
-rm_length None digit code a b p = refl
-rm_length (Some (rules.Fixed k)) digit code a b p = refl
-rm_length (Some _) digit code a b (places.Reg r) = refl
-rm_length (Some _) digit code a b (places.Mem m) = refl
-rm_length (Some _) digit code a b (places.At t) = refl
+rm_length rm digit code a b p = grind (arith, nat_tests)
 
 -- its length depends on the row and the fields alone
 pub length_is : (row : Row) (f : Fields) (a b : ℕ) → length (bytes_of row (parts_for row f a)) ≡ length (bytes_of row (parts_for row f b))

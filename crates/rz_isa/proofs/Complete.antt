@@ -29,24 +29,18 @@ use Rattle.rz_isa.proofs.Lesser.{first_low}
 -- ---- the width
 
 pub width_had : (c : Size) (b n : ℕ) → has_width c (width_of c b n) ≡ true
-width_had sizes.V b n = if_both (λ w. has_width sizes.V w ≡ true) (b == 1) W64 (if n == 0 then W32 else W16) (λ _. refl) (λ _. if_both (λ w. has_width sizes.V w ≡ true) (n == 0) W32 W16 (λ _. refl) (λ _. refl))
-width_had sizes.D b n = if_both (λ w. has_width sizes.D w ≡ true) (n == 0) W32 W16 (λ _. refl) (λ _. refl)
-width_had sizes.Y b n = if_both (λ w. has_width sizes.Y w ≡ true) (b == 1) W64 W32 (λ _. refl) (λ _. refl)
-width_had _ b n = refl
+width_had c b n = grind (arith, nat_tests)
 
 -- ---- registers
 
 pub code_again : (w : Width) (rex : Option ℕ) (n : ℕ) → code_of (reg_of w rex n) ≡ n
-code_again W8 None n = if_both (λ r. code_of r ≡ n) (nat_lt n 4) (regs.R n) (regs.High (n - 4)) (λ _. refl) (λ e. (let le : 4 ≤ n = grind (arith, nat_tests) in omega arith))
-code_again _ rex n = refl
+code_again w rex n = grind (arith, nat_tests)
 
 pub registered : (w : Width) (rex : Option ℕ) (n : ℕ) → n < 16 → (rex ≡ None → n < 8) → is_register w (reg_of w rex n) ≡ true
-registered W8 None n lt low = (let l = low refl in if_both (λ r. is_register W8 r ≡ true) (nat_lt n 4) (regs.R n) (regs.High (n - 4)) (λ e. grind (arith, nat_tests)) (λ e. grind (arith, nat_tests)))
-registered _ rex n lt low = grind (arith, nat_tests)
+registered w rex n h1 h2 = grind (arith, nat_tests)
 
 first_again : (w : Width) (rex : Option ℕ) → is_first (reg_of w rex 0) ≡ true
-first_again W8 None = refl
-first_again _ rex = refl
+first_again w rex = grind (arith, nat_tests)
 
 -- three bits and a bit of REX
 pub with_bit : (low bit : ℕ) → low < 8 → bit < 2 → low + 8 * bit < 16
@@ -62,20 +56,16 @@ pub b_bit : (rex : Option ℕ) → bit_b rex < 2
 b_bit rex = omega arith
 
 no_r : (rex : Option ℕ) (low : ℕ) → low < 8 → rex ≡ None → low + 8 * bit_r rex < 8
-no_r None low lt e = omega arith
-no_r (Some r) low lt e = absurd (cc)
+no_r rex low h1 h2 = grind (arith, nat_tests)
 
 no_x : (rex : Option ℕ) (low : ℕ) → low < 8 → rex ≡ None → low + 8 * bit_x rex < 8
-no_x None low lt e = omega arith
-no_x (Some r) low lt e = absurd (cc)
+no_x rex low h1 h2 = grind (arith, nat_tests)
 
 no_b : (rex : Option ℕ) (low : ℕ) → low < 8 → rex ≡ None → low + 8 * bit_b rex < 8
-no_b None low lt e = omega arith
-no_b (Some r) low lt e = absurd (cc)
+no_b rex low h1 h2 = grind (arith, nat_tests)
 
 pub field_low : (rm : List ℕ) → reg_field rm < 8
-field_low [] = omega arith
-field_low (m ∷ rest) = omega arith
+field_low rm = grind (arith, nat_tests)
 
 reg_registered : (w : Width) (p : Parts) → is_register w (reg_of w p.rex (reg_field p.rm + 8 * bit_r p.rex)) ≡ true
 reg_registered w p = registered w p.rex (reg_field p.rm + 8 * bit_r p.rex) (with_bit (reg_field p.rm) (bit_r p.rex) (field_low p.rm) (r_bit p.rex)) (no_r p.rex (reg_field p.rm) (field_low p.rm))
@@ -88,13 +78,7 @@ opcode_registered w p = registered w p.rex (p.opcode % 8 + 8 * bit_b p.rex) (wit
 
 pub reg_of_parts : (rm : Option RmRule) (digit : Option ℕ) (span : ℕ) (w : Width) (p : Parts)
     → (if in_reg_field rm digit || in_opcode rm span then is_register w (reg_of w p.rex (reg_number rm digit span p)) else is_first (reg_of w p.rex (reg_number rm digit span p))) ≡ true
-reg_of_parts None digit span w p = elim (cases_Bool (span == 8)) [
-  | inl y ↦ ap (λ k. if k then is_register w (reg_of w p.rex (if k then p.opcode % 8 + 8 * bit_b p.rex else 0)) else is_first (reg_of w p.rex (if k then p.opcode % 8 + 8 * bit_b p.rex else 0))) y ∙ opcode_registered w p
-  | inr n ↦ ap (λ k. if k then is_register w (reg_of w p.rex (if k then p.opcode % 8 + 8 * bit_b p.rex else 0)) else is_first (reg_of w p.rex (if k then p.opcode % 8 + 8 * bit_b p.rex else 0))) n ∙ first_again w p.rex
-]
-reg_of_parts (Some (rules.Fixed b)) digit span w p = first_again w p.rex
-reg_of_parts (Some _) (Some d) span w p = first_again w p.rex
-reg_of_parts (Some _) None span w p = reg_registered w p
+reg_of_parts rm digit span w p = grind (arith, nat_tests)
 
 -- ---- memory
 
@@ -112,12 +96,10 @@ index_number : (n s : ℕ) → n < 16 → s < 4 → is_index (index_of n) (if is
 index_number n s ln ls = if_both (λ o. is_index o (if is_some o then 2 ^ s else 1) ≡ true) (n == 4) None (Some n) (λ _. refl) (λ e. all_three (nat_lt n 16) (not (n == 4)) (2 ^ s == 1 || 2 ^ s == 2 || 2 ^ s == 4 || 2 ^ s == 8) (grind (arith, nat_tests)) (grind (arith, nat_tests)) (quarter s ls))
 
 behind_bytes : (bs : List ℕ) → are_bytes bs ≡ true → are_bytes (behind_one bs) ≡ true
-behind_bytes [] h = refl
-behind_bytes (b ∷ bs) h = grind arith
+behind_bytes bs h1 = grind (arith, nat_tests)
 
 behind_short : (bs : List ℕ) → length bs ≤ 5 → length (behind_one bs) ≤ 4
-behind_short [] h = omega arith
-behind_short (b ∷ bs) h = omega arith
+behind_short bs h1 = grind (arith, nat_tests)
 
 sib_memory : (mode sib : ℕ) (rex : Option ℕ) (disp : List ℕ) → sib < 256 → are_bytes disp ≡ true → length disp ≤ 4 → is_memory (sib_mem mode sib rex disp) ≡ true
 sib_memory mode sib rex disp lt h short = all_three _ _ _
@@ -129,8 +111,7 @@ base_memory : (low : ℕ) (rex : Option ℕ) (disp : List ℕ) → low < 8 → a
 base_memory low rex disp lt h short = all_three _ _ _ (grind (arith, nat_tests, b_bit rex)) refl (signed_is_disp disp h short)
 
 second_byte : (m : ℕ) (rest : List ℕ) → are_bytes rest ≡ true → second (m ∷ rest) < 256
-second_byte m [] h = omega arith
-second_byte m (s ∷ rest) h = grind (arith, nat_tests)
+second_byte m rest h1 = grind (arith, nat_tests)
 
 pub disp_short : (mode low : ℕ) → disp_len mode low ≤ 4
 disp_short mode low = grind arith
@@ -184,10 +165,7 @@ place_had (Some rules.RegisterOnly) digit v rex next (m ∷ rest) fit h =
 -- ---- the other fields
 
 pub cond_of_opcode : (span o : ℕ) → has_cond span (if span == 16 then o % 16 else 0) ≡ true
-cond_of_opcode span o = elim (cases_Bool (span == 16)) [
-  | inl y ↦ (let l : nat_lt (o % 16) 16 ≡ true = grind (arith, nat_tests) in ap (λ k. if k then nat_lt (if k then o % 16 else 0) 16 else (if k then o % 16 else 0) == 0) y ∙ l)
-  | inr n ↦ ap (λ k. if k then nat_lt (if k then o % 16 else 0) 16 else (if k then o % 16 else 0) == 0) n
-]
+cond_of_opcode span o = grind (arith, nat_tests)
 
 number_below : (bs : List ℕ) (m : ℕ) → are_bytes bs ≡ true → numbers bs ≡ m → nat_lt (number bs) m ≡ true
 number_below bs m h e = below_test (number bs) m (subst (λ k. number bs < k) e (number_less bs h))
@@ -212,81 +190,55 @@ pub repeat_in-is : (ps : List ℕ) → is_repeat (repeat_in ps) ≡ true
 repeat_in-is ps = if_both (λ k. is_repeat k ≡ true) (times 0xf3 ps == 0) 0 0xf3 (λ _. refl) (λ _. refl)
 
 pub rep_of_prefixes : (r : F3Rule) (b : ℕ) → is_repeat b ≡ true → has_rep r (rep_of r b) ≡ true
-rep_of_prefixes f3s.Repeats b h = h
-rep_of_prefixes _ b h = refl
+rep_of_prefixes r b h1 = grind (arith, nat_tests)
 
 -- ---- REX: with one no register is AH, CH, DH or BH, without one none needs it
 
 not_high : (w : Width) (r n : ℕ) → is_high (reg_of w (Some r) n) ≡ false
-not_high W8 r n = refl
-not_high _ r n = refl
+not_high w r n = grind (arith, nat_tests)
 
 -- what holds of a register, of memory and of an address holds of the place that the bytes name
 place_cases : (P : Place → Type 0) (v : Width) (rex : Option ℕ) (next : ℕ) (bs : List ℕ) → P (places.Reg (regs.R 0)) → ((low : ℕ) → low < 8 → P (places.Reg (reg_of v rex (low + 8 * bit_b rex))))
     → ((mode sib : ℕ) (disp : List ℕ) → P (places.Mem (sib_mem mode sib rex disp))) → ((low : ℕ) (disp : List ℕ) → low < 8 → P (places.Mem (base_mem low rex disp))) → ((a : ℕ) → P (places.At a)) → P (place_of v rex next bs)
-place_cases P v rex next [] none reg sib base at = none
-place_cases P v rex next (m ∷ rest) none reg sib base at =
-    if_both P (m / 64 == 3) _ _ (λ _. reg (m % 8) (eighth_low m)) (λ _. if_both P (m % 8 == 4) _ _ (λ _. sib (m / 64) (second (m ∷ rest)) (behind_one rest))
-    (λ _. if_both P (m / 64 == 0 && m % 8 == 5) _ _ (λ _. at (displaced_by next rest)) (λ _. base (m % 8) rest (eighth_low m))))
+place_cases P v rex next bs h1 h2 h3 h4 h5 = grind (arith, nat_tests)
 
 place_not_high : (v : Width) (r next : ℕ) (bs : List ℕ) → high_place (place_of v (Some r) next bs) ≡ false
 place_not_high v r next bs = place_cases (λ p. high_place p ≡ false) v (Some r) next bs refl (λ low _. not_high v r (low + 8 * bit_b (Some r))) (λ mode sib disp. refl) (λ low disp _. refl) (λ a. refl)
 
 rm_not_high : (rm : Option RmRule) (v : Width) (r next : ℕ) (bs : List ℕ) → high_place (rm_place rm v (Some r) next bs) ≡ false
-rm_not_high (Some (rules.Fixed b)) v r next bs = refl
-rm_not_high _ v r next bs = place_not_high v r next bs
+rm_not_high rm v r next bs = grind (arith, nat_tests)
 
 not_low : (w : Width) (n : ℕ) → is_low_byte w (reg_of w None n) ≡ false
-not_low W8 n = if_both (λ r. is_low_byte W8 r ≡ false) (nat_lt n 4) (regs.R n) (regs.High (n - 4)) (λ e. grind (arith, nat_tests)) (λ _. refl)
-not_low _ n = refl
+not_low w n = grind (arith, nat_tests)
 
 place_not_low : (v : Width) (next : ℕ) (bs : List ℕ) → low_byte_place v (place_of v None next bs) ≡ false
 place_not_low v next bs = place_cases (λ p. low_byte_place v p ≡ false) v None next bs (first_low v) (λ low _. not_low v (low + 8 * bit_b None)) (λ mode sib disp. refl) (λ low disp _. refl) (λ a. refl)
 
 rm_not_low : (rm : Option RmRule) (v : Width) (next : ℕ) (bs : List ℕ) → low_byte_place v (rm_place rm v None next bs) ≡ false
-rm_not_low (Some (rules.Fixed b)) v next bs = first_low v
-rm_not_low _ v next bs = place_not_low v next bs
+rm_not_low rm v next bs = grind (arith, nat_tests)
 
 -- ---- the bits of REX that the fields need are among those that stand there
 
 w_of_size : (c : Size) (b n : ℕ) → b < 2 → is_met (w_demand c) b ≡ true → w_needed c (width_of c b n) ≤ b
-w_of_size sizes.B b n lt m = omega arith
-w_of_size sizes.V b n lt m = if_both (λ w. (if is_wide w then 1 else 0) ≤ b) (b == 1) W64 (if n == 0 then W32 else W16) (λ e. grind (arith, nat_tests))
-    (λ _. if_both (λ w. (if is_wide w then 1 else 0) ≤ b) (n == 0) W32 W16 (λ _. omega arith) (λ _. omega arith))
-w_of_size sizes.D b n lt m = omega arith
-w_of_size sizes.Y b n lt m = if_both (λ w. (if is_wide w then 1 else 0) ≤ b) (b == 1) W64 W32 (λ e. grind (arith, nat_tests)) (λ _. omega arith)
-w_of_size sizes.Q b n lt m = omega arith
-w_of_size sizes.WQ b n lt m = grind (arith, nat_tests)
-w_of_size sizes.N b n lt m = omega arith
+w_of_size c b n h1 h2 = grind (arith, nat_tests)
 
 place_x : (v : Width) (rex : Option ℕ) (next : ℕ) (bs : List ℕ) → x_needed (place_of v rex next bs) ≤ bit_x rex
-place_x v rex next bs = place_cases (λ p. x_needed p ≤ bit_x rex) v rex next bs (omega arith) (λ low _. omega arith) (λ mode sib disp. indexed (sib / 8 % 8) (bit_x rex) (omega arith)) (λ low disp _. omega arith) (λ a. omega arith)
-  where
-    indexed : (low b : ℕ) → low < 8 → number_in (index_of (low + 8 * b)) / 8 ≤ b
-    indexed low b lt = if_both (λ o. number_in o / 8 ≤ b) (low + 8 * b == 4) None (Some (low + 8 * b)) (λ _. omega arith) (λ _. omega arith)
+place_x v rex next bs = grind (arith, nat_tests)
 
 rm_x : (rm : Option RmRule) (v : Width) (rex : Option ℕ) (next : ℕ) (bs : List ℕ) → x_needed (rm_place rm v rex next bs) ≤ bit_x rex
-rm_x (Some (rules.Fixed b)) v rex next bs = omega arith
-rm_x _ v rex next bs = place_x v rex next bs
+rm_x rm v rex next bs = grind (arith, nat_tests)
 
 reg_b : (v : Width) (rex : Option ℕ) (low b : ℕ) → low < 8 → code_of (reg_of v rex (low + 8 * b)) / 8 ≤ b
 reg_b v rex low b lt = subst (λ k. k / 8 ≤ b) (sym (code_again v rex (low + 8 * b))) (omega arith)
 
 place_of_b : (v : Width) (rex : Option ℕ) (next : ℕ) (bs : List ℕ) → place_b (place_of v rex next bs) ≤ bit_b rex
-place_of_b v rex next bs = place_cases (λ p. place_b p ≤ bit_b rex) v rex next bs (omega arith) (λ low lt. reg_b v rex low (bit_b rex) lt) (λ mode sib disp. based mode (sib % 8) (bit_b rex) (omega arith)) (λ low disp lt. omega arith) (λ a. omega arith)
-  where
-    based : (mode low b : ℕ) → low < 8 → number_in (base_of mode low b) / 8 ≤ b
-    based mode low b lt = if_both (λ o. number_in o / 8 ≤ b) (mode == 0 && low == 5) None (Some (low + 8 * b)) (λ _. omega arith) (λ _. omega arith)
+place_of_b v rex next bs = grind (arith, nat_tests)
 
 rm_b : (rm : Option RmRule) (v : Width) (rex : Option ℕ) (next : ℕ) (bs : List ℕ) → place_b (rm_place rm v rex next bs) ≤ bit_b rex
-rm_b (Some (rules.Fixed b)) v rex next bs = omega arith
-rm_b _ v rex next bs = place_of_b v rex next bs
+rm_b rm v rex next bs = grind (arith, nat_tests)
 
 reg_r : (rm : Option RmRule) (digit : Option ℕ) (span : ℕ) (w : Width) (p : Parts) → (if in_reg_field rm digit then code_of (reg_of w p.rex (reg_number rm digit span p)) / 8 else 0) ≤ bit_r p.rex
-reg_r None digit span w p = omega arith
-reg_r (Some (rules.Fixed b)) digit span w p = omega arith
-reg_r (Some _) (Some d) span w p = omega arith
-reg_r (Some _) None span w p = reg_b w p.rex (reg_field p.rm) (bit_r p.rex) (field_low p.rm)
+reg_r rm digit span w p = grind (arith, nat_tests)
 
 opcode_b : (rm : Option RmRule) (digit : Option ℕ) (span : ℕ) (w v : Width) (p : Parts) (next : ℕ)
     → (if in_opcode rm span then code_of (reg_of w p.rex (reg_number rm digit span p)) / 8 else place_b (rm_place rm v p.rex next p.rm)) ≤ bit_b p.rex
@@ -302,12 +254,10 @@ abbrev pub rm_of : Row → Parts → ℕ → Place
 rm_of row p next = rm_place row.rm (rm_width row.op (width_at row p)) p.rex next p.rm
 
 pub w_bit : (rex : Option ℕ) → bit_w rex < 2
-w_bit None = omega arith
-w_bit (Some r) = omega arith
+w_bit rex = grind (arith, nat_tests)
 
 no_bits : (rex : Option ℕ) → rex ≡ None → (bit_w rex ≡ 0) × (bit_r rex ≡ 0) × (bit_x rex ≡ 0) × (bit_b rex ≡ 0)
-no_bits None e = (refl, refl, refl, refl)
-no_bits (Some r) e = absurd (cc)
+no_bits rex h1 = grind (arith, nat_tests)
 
 not_positive : (n : ℕ) → n ≡ 0 → nat_lt 0 n ≡ false
 not_positive n e = grind (arith, nat_tests)
@@ -363,22 +313,16 @@ rex_joined row p next fit = by_rex p.rex refl
 -- ---- REX.B where the row demands it
 
 zero_met : (op : Op) (m : OpMap) (o n : ℕ) → n ≡ 0 → is_exchange op ≡ false → is_met (b_demand op m o) n ≡ true
-zero_met (ops.Xchg letters.O letters.A) m o n e x = absurd (cc)
-zero_met ops.Nop maps.One o n e x = elim (cases_Bool (o == 0x90)) [ inl y ↦ grind (arith, nat_tests) | inr k ↦ grind (arith, nat_tests) ]
-zero_met _ m o n e x = refl
+zero_met op m o n h1 h2 = grind (arith, nat_tests)
 
 undemanding : (op : Op) (m : OpMap) (o n : ℕ) → is_some (b_demand op m 0x90) ≡ false → is_met (b_demand op m o) n ≡ true
-undemanding (ops.Xchg letters.O letters.A) m o n e = absurd (cc)
-undemanding ops.Nop maps.One o n e = absurd (cc)
-undemanding _ m o n e = refl
+undemanding op m o n h1 = grind (arith, nat_tests)
 
 no_rm : (d : Bool) (r : Option RmRule) → d ≡ true → not (d && is_some r) ≡ true → r ≡ None
-no_rm d None e h = refl
-no_rm d (Some r) e h = absurd (never d e (grind arith))
+no_rm d r h1 h2 = grind (arith, nat_tests)
 
 no_bytes : (digit : Option ℕ) (bs : List ℕ) → rm_fits None digit bs ≡ true → bs ≡ []
-no_bytes digit [] h = refl
-no_bytes digit (b ∷ bs) h = absurd (cc)
+no_bytes digit bs h1 = grind (arith, nat_tests)
 
 pub eight_aligned : (r : Row) → is_block r ≡ true → (r.span == 8) ≡ true → r.opcode % 8 ≡ 0
 eight_aligned r b s = grind (arith, nat_tests)
@@ -391,33 +335,7 @@ opcode_again base o b z le lt small = (omega arith, omega arith)
 
 pub demand_met : (row : Row) (p : Parts) (next : ℕ) → IsRegular row → Fits row p
     → is_met (b_demand row.op row.map (opcode_of row (fields row p next))) (b_needed row (fields row p next)) ≡ true
-demand_met row p next reg fit = elim (cases_Bool (is_some (b_demand row.op row.map 0x90))) [
-  | inr free ↦ undemanding row.op row.map (opcode_of row (fields row p next)) (b_needed row (fields row p next)) free
-  | inl asks ↦
-      (let none = no_rm (is_some (b_demand row.op row.map 0x90)) row.rm asks reg.demand in
-      let w = width_at row p in
-      let v = rm_width row.op w in
-      elim (cases_Bool (row.span == 8)) [
-        | inl y ↦
-            (let at : in_opcode row.rm row.span ≡ true = ap (λ k. in_opcode k row.span) none ∙ y in
-            let number : reg_number row.rm row.digit row.span p ≡ p.opcode % 8 + 8 * bit_b p.rex = ap (λ k. reg_number k row.digit row.span p) none ∙ if_true (row.span == 8) _ _ y in
-            let code : code_of (reg_of w p.rex (reg_number row.rm row.digit row.span p)) ≡ p.opcode % 8 + 8 * bit_b p.rex = code_again w p.rex _ ∙ number in
-            let le : row.opcode ≤ p.opcode = grind (arith, nat_tests, fit.opcode) in
-            let lt0 : p.opcode < row.opcode + row.span = grind (arith, nat_tests, fit.opcode) in
-            let lt : p.opcode < row.opcode + 8 = subst (λ k. p.opcode < row.opcode + k) (equal_is row.span 8 y) lt0 in
-            let o = opcode_again row.opcode p.opcode (bit_b p.rex) (eight_aligned row reg.block y) le lt (b_bit p.rex) in
-            let opcode : opcode_of row (fields row p next) ≡ p.opcode = ap (λ k. row.opcode + k) (if_true (in_opcode row.rm row.span) _ _ at ∙ ap (λ k. k % 8) code) ∙ o.0 in
-            let bit : b_needed row (fields row p next) ≡ bit_b p.rex = if_true (in_opcode row.rm row.span) _ _ at ∙ (ap (λ k. k / 8) code ∙ o.1) in
-            subst (λ k. is_met (b_demand row.op row.map k) (b_needed row (fields row p next)) ≡ true) (sym opcode)
-            (subst (λ k. is_met (b_demand row.op row.map p.opcode) k ≡ true) (sym bit) fit.b))
-        | inr n ↦
-            (let at : in_opcode row.rm row.span ≡ false = ap (λ k. in_opcode k row.span) none ∙ n in
-            let empty : p.rm ≡ [] = no_bytes row.digit p.rm (subst (λ k. rm_fits k row.digit p.rm ≡ true) none fit.rm) in
-            let place : rm_place row.rm v p.rex next p.rm ≡ places.Reg (regs.R 0) = ap (λ k. rm_place k v p.rex next p.rm) none ∙ ap (place_of v p.rex next) empty in
-            let bit : b_needed row (fields row p next) ≡ 0 = if_false (in_opcode row.rm row.span) _ _ at ∙ ap place_b place in
-            zero_met row.op row.map (opcode_of row (fields row p next)) (b_needed row (fields row p next)) bit (exchange_eight (is_exchange row.op) (row.span == 8) reg.exchange n))
-      ])
-]
+demand_met row p next h1 h2 = grind (arith, nat_tests)
 
 -- ---- all tests
 

@@ -24,27 +24,16 @@ fronts a b x y len same = (
 
 -- only where there is a SIB does the length depend on the second byte
 pub rm_len_cases : (m s t : ℕ) → (rm_len m s ≡ rm_len m t) ⊎ ((2 ≤ rm_len m s) × (2 ≤ rm_len m t))
-rm_len_cases m s t = elim (cases_Bool (m / 64 == 3)) [
-  | inl a ↦ inl (grind arith)
-  | inr b ↦ elim (cases_Bool (m % 8 == 4)) [
-    | inl c ↦ inr (grind arith, grind arith)
-    | inr d ↦ inl (grind arith)
-  ]
-]
+rm_len_cases m s t = grind (arith, nat_tests)
 
 pub rm_fits_len : (rule : RmRule) (digit : Option ℕ) (m : ℕ) (a : List ℕ) → rm_fits (Some rule) digit (m ∷ a) ≡ true → 1 + length a ≡ rm_len m (second (m ∷ a))
 rm_fits_len rule digit m a fit = grind (arith, nat_tests)
 
 pub second_same : (m : ℕ) (a b x y : List ℕ) → 1 ≤ length a → 1 ≤ length b → a ++ x ≡ b ++ y → second (m ∷ a) ≡ second (m ∷ b)
-second_same m [] b x y la lb same = absurd (grind arith)
-second_same m (s ∷ a) [] x y la lb same = absurd (grind arith)
-second_same m (s ∷ a) (t ∷ b) x y la lb same = cc
+second_same m a b x y h1 h2 h3 = grind (arith, nat_tests)
 
 pub rm_tail_len : (m : ℕ) (a b x y : List ℕ) → 1 + length a ≡ rm_len m (second (m ∷ a)) → 1 + length b ≡ rm_len m (second (m ∷ b)) → a ++ x ≡ b ++ y → length a ≡ length b
-rm_tail_len m a b x y la lb same = elim (rm_len_cases m (second (m ∷ a)) (second (m ∷ b))) [
-  | inl e ↦ omega arith
-  | inr both ↦ (let e = second_same m a b x y (omega arith) (omega arith) same in let f : rm_len m (second (m ∷ a)) ≡ rm_len m (second (m ∷ b)) = ap (rm_len m) e in omega arith)
-]
+rm_tail_len m a b x y h1 h2 h3 = grind (arith, nat_tests)
 
 pub head_same : (m n : ℕ) (a b x y : List ℕ) → (m ∷ a) ++ x ≡ (n ∷ b) ++ y → (m ≡ n) × (a ++ x ≡ b ++ y)
 head_same m n a b x y same = (cc, cc)
@@ -89,9 +78,7 @@ same_head r s p q m n fp fq pp pq same =
 -- ---- heads that exclude each other
 
 pub clash_not : (d e : Option ℕ) (n : ℕ) → is_met d n ≡ true → is_met e n ≡ true → clash d e ≡ false
-clash_not None e n fd fe = refl
-clash_not (Some d) None n fd fe = refl
-clash_not (Some d) (Some e) n fd fe = grind (arith, nat_tests)
+clash_not d e n h1 h2 = grind (arith, nat_tests)
 
 pub f3_met : (row : Row) (ps : List ℕ) → prefixes_fit row ps ≡ true → is_met (f3_demand row.f3) (times 0xf3 ps) ≡ true
 f3_met row ps fit = grind arith
@@ -136,10 +123,7 @@ shared_apart r s o fr fs none = elim (cases_Bool (shared_clash r s)) [
 ]
 
 pub same_maps : (a b : OpMap) → a ≡ b → same_map a b ≡ true
-same_maps maps.One maps.One e = refl
-same_maps maps.Two maps.Two e = refl
-same_maps maps.One maps.Two e = absurd (cc)
-same_maps maps.Two maps.One e = absurd (cc)
+same_maps a b h1 = grind (arith, nat_tests)
 
 pub record IsPlain (r : Row) : Type 0 where
   pub opcodes : (o : ℕ) → opcode_fits r o ≡ true → opcode_plain r.map o ≡ true

@@ -30,27 +30,19 @@ skip_while-cut p (x ∷ xs) ys all stop = grind (arith, skip_while-cut p xs ys)
 -- ---- REX and the opcode behind the prefixes
 
 pub rex_at-cut : (rex : Option ℕ) (t : List ℕ) → rex_fits rex ≡ true → stops is_rex t ≡ true → rex_at (rex_bytes rex ++ t) ≡ rex
-rex_at-cut None [] fits stop = refl
-rex_at-cut None (b ∷ t) fits stop = grind arith
-rex_at-cut (Some b) t fits stop = grind arith
+rex_at-cut rex t h1 h2 = grind (arith, nat_tests)
 
 pub behind_rex-cut : (rex : Option ℕ) (t : List ℕ) → rex_fits rex ≡ true → stops is_rex t ≡ true → behind_rex (rex_bytes rex ++ t) ≡ t
-behind_rex-cut None [] fits stop = refl
-behind_rex-cut None (b ∷ t) fits stop = grind arith
-behind_rex-cut (Some b) t fits stop = grind arith
+behind_rex-cut rex t h1 h2 = grind (arith, nat_tests)
 
 pub opcode_at-cut : (m : OpMap) (b : ℕ) (rest : List ℕ) → opcode_plain m b ≡ true → opcode_at (escape m ++ (b ∷ rest)) ≡ Some (record { map = m; byte = b; rest = rest })
-opcode_at-cut maps.One b rest plain = grind (arith, nat_tests)
-opcode_at-cut maps.Two b rest plain = refl
+opcode_at-cut m b rest h1 = grind (arith, nat_tests)
 
 pub stops_at_opcode : (m : OpMap) (b : ℕ) (rest : List ℕ) → opcode_plain m b ≡ true → stops is_rex (escape m ++ (b ∷ rest)) ≡ true
-stops_at_opcode maps.One b rest plain = grind arith
-stops_at_opcode maps.Two b rest plain = refl
+stops_at_opcode m b rest h1 = grind (arith, nat_tests)
 
 pub stops_at_rex : (rex : Option ℕ) (m : OpMap) (b : ℕ) (rest : List ℕ) → rex_fits rex ≡ true → opcode_plain m b ≡ true → stops is_prefix (rex_bytes rex ++ (escape m ++ (b ∷ rest))) ≡ true
-stops_at_rex None maps.One b rest fits plain = grind arith
-stops_at_rex None maps.Two b rest fits plain = refl
-stops_at_rex (Some r) m b rest fits plain = grind (arith, nat_tests)
+stops_at_rex rex m b rest h1 h2 = grind (arith, nat_tests)
 
 -- ---- what a row allows as a prefix is one
 
@@ -64,10 +56,7 @@ pub times_tail : (c b : ℕ) (ps : List ℕ) → times c ps ≤ times c (b ∷ p
 times_tail c b ps = grind (arith, nat_tests, common_steps)
 
 pub allowed_is_prefix : (row : Row) (b n : ℕ) → 1 ≤ n → nat_le n (most row b) ≡ true → is_prefix b ≡ true
-allowed_is_prefix row b n some within = elim (cases_Bool (is_prefix b)) [
-  | inl y ↦ y
-  | inr o ↦ (let z = most_of_other row b o in absurd (grind (arith, nat_tests)))
-]
+allowed_is_prefix row b n h1 h2 = grind (arith, nat_tests)
 
 pub prefixes_below : (row : Row) (n : ℕ → ℕ) (ps : List ℕ) → list_all (λ b. nat_le (n b) (most row b)) ps ≡ true → ((b : ℕ) → times b ps ≤ n b) → list_all is_prefix ps ≡ true
 prefixes_below row n [] all below = refl

@@ -55,25 +55,11 @@ regular_of r h =
 -- ---- immediates of counts, bit indexes and Ret
 
 pub imm_small_of : (op : Op) (k : Option ImmKind) (w : Width) (n : ℕ) → imm_suits op k ≡ true → has_imm k w n ≡ true → imm_small op n
-imm_small_of (ops.Shift o d c) None w n s h = grind (arith, nat_tests)
-imm_small_of (ops.Shift o d c) (Some imms.Ib) w n s h = grind (arith, nat_tests)
-imm_small_of (ops.Shift o d c) _ w n s h = absurd (cc)
-imm_small_of (ops.DoubleShift o d e c) None w n s h = grind (arith, nat_tests)
-imm_small_of (ops.DoubleShift o d e c) (Some imms.Ib) w n s h = grind (arith, nat_tests)
-imm_small_of (ops.DoubleShift o d e c) _ w n s h = absurd (cc)
-imm_small_of (ops.BitTest o d i) None w n s h = grind (arith, nat_tests)
-imm_small_of (ops.BitTest o d i) (Some imms.Ib) w n s h = grind (arith, nat_tests)
-imm_small_of (ops.BitTest o d i) _ w n s h = absurd (cc)
-imm_small_of ops.Ret None w n s h = grind (arith, nat_tests)
-imm_small_of ops.Ret (Some imms.Iw) w n s h = grind (arith, nat_tests)
-imm_small_of ops.Ret _ w n s h = absurd (cc)
-imm_small_of _ k w n s h = tt
+imm_small_of op k w n h1 h2 = grind (arith, nat_tests)
 
 pub exchange_place : (op : Op) (m : OpMap) (r : Option RmRule) (span : ℕ) → not (is_some (b_demand op m 0x90) && is_some r) ≡ true → (not (is_exchange op) || span == 8) ≡ true
     → is_exchange op ≡ true → in_opcode r span ≡ true
-exchange_place (ops.Xchg letters.O letters.A) m None span d x e = x
-exchange_place (ops.Xchg letters.O letters.A) m (Some r) span d x e = absurd (cc)
-exchange_place _ m r span d x e = absurd (cc)
+exchange_place op m r span h1 h2 h3 = grind (arith, nat_tests)
 
 pub narrow : (a b : Bool) → a ≡ true → not (a && b) ≡ true → b ≡ false
 narrow a b e h = grind arith

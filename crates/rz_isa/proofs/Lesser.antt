@@ -22,87 +22,56 @@ use Rattle.rz_isa.proofs.Tests.{never, if_both}
 -- ---- a register of more than 8 bits is named by its number
 
 byte_class : (c : Size) (w : Width) → has_width c w ≡ true → is_byte_class c ≡ false → is_byte w ≡ false
-byte_class sizes.B W8 h n = n
-byte_class sizes.N W8 h n = n
-byte_class _ W8 h n = sym h
-byte_class _ _ h n = refl
+byte_class c w h1 h2 = grind (arith, nat_tests)
 
 plain_register : (w : Width) (r : Reg) → is_byte w ≡ false → is_register w r ≡ true → regs.R (number_of r) ≡ r
-plain_register w (regs.R n) b h = refl
-plain_register w (regs.High n) b h = absurd (never (is_byte w) (grind arith) b)
+plain_register w r h1 h2 = grind (arith, nat_tests)
 
 pub numbered : (row : Row) (f : Fields) → Had row f → is_byte_class row.size ≡ false → Numbered f
-numbered row f h narrow = elim (cases_Bool (in_reg_field row.rm row.digit || in_opcode row.rm row.span)) [
-  | inl y ↦ plain_register f.w f.reg (byte_class row.size f.w h.w narrow) (sym (ap (λ k. if k then is_register f.w f.reg else is_first f.reg) y) ∙ h.reg)
-  | inr n ↦
-      (let e = first_is f.reg (sym (ap (λ k. if k then is_register f.w f.reg else is_first f.reg) n) ∙ h.reg) in
-      ap (λ r. regs.R (number_of r)) (sym e) ∙ e)
-]
+numbered row f h1 h2 = grind (arith, nat_tests)
 
 -- ---- the least value of each field
 
 least_width-had : (c : Size) → has_width c (least_width c) ≡ true
-least_width-had sizes.B = refl
-least_width-had _ = refl
+least_width-had c = grind (arith, nat_tests)
 
 first-had : (row : Row) (w : Width) → has_reg row w (regs.R 0) ≡ true
 first-had row w = if_both (λ k. k ≡ true) (in_reg_field row.rm row.digit || in_opcode row.rm row.span) (is_register w (regs.R 0)) (is_first (regs.R 0)) (λ _. refl) (λ _. refl)
 
 least_place-had : (r : Option RmRule) (w : Width) → has_place r w (least_place r) ≡ true
-least_place-had (Some rules.Any) w = refl
-least_place-had _ w = refl
+least_place-had r w = grind (arith, nat_tests)
 
 no_cond : (span : ℕ) → has_cond span 0 ≡ true
 no_cond span = if_both (λ k. k ≡ true) (span == 16) true true (λ _. refl) (λ _. refl)
 
 no_imm : (k : Option ImmKind) (w : Width) → has_imm k w 0 ≡ true
-no_imm (Some imms.Iz) W8 = refl
-no_imm (Some imms.Iz) _ = refl
-no_imm (Some imms.Iv) W8 = refl
-no_imm (Some imms.Iv) _ = refl
-no_imm _ w = refl
+no_imm k w = grind (arith, nat_tests)
 
 no_rep : (r : F3Rule) → has_rep r 0 ≡ true
-no_rep f3s.Repeats = refl
-no_rep _ = refl
+no_rep r = grind (arith, nat_tests)
 
 least_x : (r : Option RmRule) → x_needed (least_place r) ≡ 0
-least_x (Some rules.Any) = refl
-least_x _ = refl
+least_x r = grind (arith, nat_tests)
 
 pub first_low : (w : Width) → is_low_byte w (regs.R 0) ≡ false
-first_low W8 = refl
-first_low _ = refl
+first_low w = grind (arith, nat_tests)
 
 least_low : (r : Option RmRule) (w : Width) → low_byte_place w (least_place r) ≡ false
-least_low (Some rules.Any) w = first_low w
-least_low (Some rules.MemoryOnly) w = refl
-least_low _ w = first_low w
+least_low r w = grind (arith, nat_tests)
 
 least_high : (r : Option RmRule) → high_place (least_place r) ≡ false
-least_high (Some rules.Any) = refl
-least_high _ = refl
+least_high r = grind (arith, nat_tests)
 
 not_left : (a b : Bool) → a ≡ false → not (a && b) ≡ true
 not_left a b e = grind arith
 
 least-had : (row : Row) → is_met (b_demand row.op row.map (opcode_of row (least row))) (b_needed row (least row)) ≡ true → Had row (least row)
-least-had row met = record {
-  w = least_width-had row.size;
-  reg = first-had row (least_width row.size);
-  rm = least_place-had row.rm (rm_width row.op (least_width row.size));
-  cond = no_cond row.span;
-  imm = no_imm row.imm (least_width row.size);
-  rep = no_rep row.f3;
-  rex = not_left _ (needs_rex row (least row)) (least_high row.rm);
-  b = met;
-}
+least-had row h1 = grind (arith, nat_tests)
 
 -- ---- a test that the fields pass, and that the least value passes
 
 pub either_way : {X : Type 0} (P : X → Type 0) (a b c : X) → (a ≡ b) ⊎ (a ≡ c) → P b → P c → P a
-either_way P a b c (inl e) pb pc = subst P (sym e) pb
-either_way P a b c (inr e) pb pc = subst P (sym e) pc
+either_way P a b c h1 h2 h3 = grind (arith, nat_tests)
 
 rex_less : (row : Row) (g f : Fields) → Below row g f → rex_needed row g ≤ rex_needed row f
 rex_less row g f b =
@@ -136,9 +105,7 @@ or_kept false true c d f g h = (let e : d ≡ true = g refl in grind arith)
 or_kept false false c d f g h = absurd (cc)
 
 not_and : (a b c d : Bool) → Kept a c → Kept b d → not (c && d) ≡ true → not (a && b) ≡ true
-not_and true true c d f g h = (let ec : c ≡ true = f refl in let ed : d ≡ true = g refl in absurd (grind arith))
-not_and true false c d f g h = refl
-not_and false b c d f g h = refl
+not_and a b c d h1 h2 h3 = grind (arith, nat_tests)
 
 positive : (a b : ℕ) → a ≤ b → Kept (nat_lt 0 a) (nat_lt 0 b)
 positive a b h p = grind (arith, nat_tests)

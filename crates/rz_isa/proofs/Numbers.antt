@@ -47,14 +47,7 @@ pub minus_is : (n m : ℕ) → n < m → pos n -ℤ pos m ≡ negsuc (m - 1 - n)
 minus_is n m lt = omega (arith, ints)
 
 signed_disp : (n m : ℕ) → n < m → m ≤ 2 ^ 32 → is_disp (if nat_lt (2 * n) m then pos n else pos n -ℤ pos m) ≡ true
-signed_disp n m lt small = elim (cases_Bool (nat_lt (2 * n) m)) [
-  | inl y ↦
-      (let l : nat_lt n (2 ^ 31) ≡ true = grind (arith, nat_tests) in
-      ap (λ k. is_disp (if k then pos n else pos n -ℤ pos m)) y ∙ l)
-  | inr k ↦
-      (let l : nat_lt (m - 1 - n) (2 ^ 31) ≡ true = grind (arith, nat_tests) in
-      ap (λ k. is_disp (if k then pos n else pos n -ℤ pos m)) k ∙ (ap is_disp (minus_is n m lt) ∙ l))
-]
+signed_disp n m h1 h2 = grind (arith, nat_tests)
 
 pub signed_is_disp : (bs : List ℕ) → are_bytes bs ≡ true → length bs ≤ 4 → is_disp (signed bs) ≡ true
 signed_is_disp bs h short = signed_disp (number bs) (numbers bs) (number_less bs h) (numbers_small bs short)

@@ -24,12 +24,7 @@ use Rattle.rz_isa.proofs.Tests.{and_both, if_true, if_false, if_both, and_three,
 -- ---- prefixes
 
 half_takes : (c : Size) (w : Width) → has_width c w ≡ true → is_half w ≡ true → takes_66 c ≡ true
-half_takes sizes.V W16 h e = refl
-half_takes sizes.D W16 h e = refl
-half_takes _ W16 h e = absurd (cc)
-half_takes _ W8 h e = absurd (cc)
-half_takes _ W32 h e = absurd (cc)
-half_takes _ W64 h e = absurd (cc)
+half_takes c w h1 h2 = grind (arith, nat_tests)
 
 most_when : (row : Row) → takes_66 row.size ≡ true → nat_le 1 (most_66 row) ≡ true
 most_when row t = grind (arith, nat_tests)
@@ -45,62 +40,45 @@ pub repeat_both : (P : ℕ → Type 0) (b : ℕ) → is_repeat b ≡ true → P 
 repeat_both P b h none some = elim (cases_Bool (b == 0)) [ inl y ↦ subst P (zero_repeat b y) none | inr n ↦ subst P (other_repeat b h n) some ]
 
 pub repeat_prefix-is : (r : F3Rule) (n : ℕ) → has_rep r n ≡ true → is_repeat (repeat_prefix r n) ≡ true
-repeat_prefix-is f3s.Repeats n h = h
-repeat_prefix-is _ n h = refl
+repeat_prefix-is r n h1 = grind (arith, nat_tests)
 
 f3_met : (r : F3Rule) (rep : ℕ) → is_met (f3_demand r) (if repeat_prefix r rep == 0 then 0 else 1) ≡ true
-f3_met f3s.Repeats rep = refl
-f3_met _ rep = refl
+f3_met r rep = grind (arith, nat_tests)
 
 prefixes_by : (row : Row) (a : Bool) (b : ℕ) → is_repeat b ≡ true → (a ≡ true → nat_le 1 (most_66 row) ≡ true) → is_met (f3_demand row.f3) (if b == 0 then 0 else 1) ≡ true → prefixes_fit row (prefixes_for a b) ≡ true
-prefixes_by row true b h m f = repeat_both (λ k. is_met (f3_demand row.f3) (if k == 0 then 0 else 1) ≡ true → prefixes_fit row (prefixes_for true k) ≡ true) b h
-    (λ x. and_both _ _ (and_both _ _ (m refl) refl) x) (λ x. and_both _ _ (and_both _ _ (m refl) refl) x) f
-prefixes_by row false b h m f = repeat_both (λ k. is_met (f3_demand row.f3) (if k == 0 then 0 else 1) ≡ true → prefixes_fit row (prefixes_for false k) ≡ true) b h (λ x. x) (λ x. x) f
+prefixes_by row a b h1 h2 h3 = grind (arith, nat_tests)
 
 pub prefixes_ok : (row : Row) (f : Fields) → Had row f → prefixes_fit row (prefixes_for (is_half f.w) (repeat_prefix row.f3 f.rep)) ≡ true
 prefixes_ok row f h = prefixes_by row (is_half f.w) (repeat_prefix row.f3 f.rep) (repeat_prefix-is row.f3 f.rep h.rep) (λ e. most_when row (half_takes row.size f.w h.w e)) (f3_met row.f3 f.rep)
 
 pub times_66 : (a : Bool) (b : ℕ) → is_repeat b ≡ true → times 0x66 (prefixes_for a b) ≡ (if a then 1 else 0)
-times_66 true b h = repeat_both (λ k. times 0x66 (prefixes_for true k) ≡ 1) b h refl refl
-times_66 false b h = repeat_both (λ k. times 0x66 (prefixes_for false k) ≡ 0) b h refl refl
+times_66 a b h1 = grind (arith, nat_tests)
 
 pub repeat_again : (a : Bool) (b : ℕ) → is_repeat b ≡ true → repeat_in (prefixes_for a b) ≡ b
-repeat_again true b h = repeat_both (λ k. repeat_in (prefixes_for true k) ≡ k) b h refl refl
-repeat_again false b h = repeat_both (λ k. repeat_in (prefixes_for false k) ≡ k) b h refl refl
+repeat_again a b h1 = grind (arith, nat_tests)
 
 pub rep_again : (r : F3Rule) (n : ℕ) → has_rep r n ≡ true → rep_of r (repeat_prefix r n) ≡ n
-rep_again f3s.Repeats n h = refl
-rep_again _ n h = zero_repeat n h
+rep_again r n h1 = grind (arith, nat_tests)
 
 -- ---- REX: its bits are those that are needed
 
 w_small : (c : Size) (w : Width) → w_needed c w ≤ 1
-w_small sizes.V w = if_both (λ k. k ≤ 1) (is_wide w) 1 0 (λ _. omega arith) (λ _. omega arith)
-w_small sizes.Y w = if_both (λ k. k ≤ 1) (is_wide w) 1 0 (λ _. omega arith) (λ _. omega arith)
-w_small sizes.WQ w = omega arith
-w_small _ w = omega arith
+w_small c w = grind (arith, nat_tests)
 
 register_code : (w : Width) (r : Reg) → is_register w r ≡ true → code_of r < 16
-register_code w (regs.R n) h = grind (arith, nat_tests)
-register_code w (regs.High n) h = grind (arith, nat_tests)
+register_code w r h1 = grind (arith, nat_tests)
 
 first_code : (r : Reg) → is_first r ≡ true → code_of r < 16
-first_code (regs.R n) h = grind (arith, nat_tests)
-first_code (regs.High n) h = absurd (cc)
+first_code r h1 = grind (arith, nat_tests)
 
 reg_code : (row : Row) (w : Width) (r : Reg) → has_reg row w r ≡ true → code_of r < 16
-reg_code row w r h = elim (cases_Bool (in_reg_field row.rm row.digit || in_opcode row.rm row.span)) [
-  | inl y ↦ register_code w r (sym (ap (λ k. if k then is_register w r else is_first r) y) ∙ h)
-  | inr n ↦ first_code r (sym (ap (λ k. if k then is_register w r else is_first r) n) ∙ h)
-]
+reg_code row w r h1 = grind (arith, nat_tests)
 
 number_small : (o : Option ℕ) → is_number o ≡ true → number_in o / 8 ≤ 1
-number_small None h = omega arith
-number_small (Some n) h = (let lt : n < 16 = grind (arith, nat_tests) in omega arith)
+number_small o h1 = grind (arith, nat_tests)
 
 index_small : (o : Option ℕ) (s : ℕ) → is_index o s ≡ true → number_in o / 8 ≤ 1
-index_small None s h = omega arith
-index_small (Some n) s h = (let lt : n < 16 = grind (arith, nat_tests) in omega arith)
+index_small o s h1 = grind (arith, nat_tests)
 
 -- the bits of a place that some rule takes
 pub record PlaceBits (p : Place) : Type 0 where
@@ -108,31 +86,19 @@ pub record PlaceBits (p : Place) : Type 0 where
   pub b : place_b p ≤ 1
 
 register_bits : (w : Width) (p : Place) → names_register w p ≡ true → PlaceBits p
-register_bits w (places.Reg r) h = (let c = register_code w r h in record { x = omega arith; b = omega arith })
-register_bits w (places.Mem m) h = absurd (cc)
-register_bits w (places.At a) h = absurd (cc)
+register_bits w p h1 = grind (arith, nat_tests)
 
 memory_bits : (p : Place) → names_memory p ≡ true → PlaceBits p
-memory_bits (places.Reg r) h = absurd (cc)
-memory_bits (places.Mem m) h =
-    let t = and_three (is_number m.base) (is_index m.index m.scale) (is_disp m.disp) h in
-    record { x = index_small m.index m.scale t.1; b = number_small m.base t.0 }
-memory_bits (places.At a) h = record { x = omega arith; b = omega arith }
+memory_bits p h1 = grind (arith, nat_tests)
 
 first_bits : (p : Place) → is_first_place p ≡ true → PlaceBits p
-first_bits (places.Reg r) h = (let c = first_code r h in record { x = omega arith; b = omega arith })
-first_bits (places.Mem m) h = absurd (cc)
-first_bits (places.At a) h = absurd (cc)
+first_bits p h1 = grind (arith, nat_tests)
 
 either_bits : (w : Width) (p : Place) → (names_register w p || names_memory p) ≡ true → PlaceBits p
 either_bits w p h = elim (cases_Bool (names_register w p)) [ inl y ↦ register_bits w p y | inr n ↦ memory_bits p (grind arith) ]
 
 place_bits : (r : Option RmRule) (w : Width) (p : Place) → has_place r w p ≡ true → PlaceBits p
-place_bits None w p h = first_bits p h
-place_bits (Some rules.Any) w p h = either_bits w p h
-place_bits (Some rules.MemoryOnly) w p h = memory_bits p h
-place_bits (Some rules.RegisterOnly) w p h = register_bits w p h
-place_bits (Some (rules.Fixed b)) w p h = first_bits p h
+place_bits r w p h1 = grind (arith, nat_tests)
 
 pub record Bits (row : Row) (f : Fields) : Type 0 where
   pub w : bit_w (rex_for row f) ≡ w_needed row.size f.w
@@ -149,16 +115,7 @@ record Four (n w' r' x' b' : ℕ) : Type 0 where
   fits : is_rex (0x40 + n) ≡ true
 
 four : (w r x b : ℕ) → w ≤ 1 → r ≤ 1 → x ≤ 1 → b ≤ 1 → Four (8 * w + 4 * r + 2 * x + b) w r x b
-four w r x b lw lr lx lb = record {
-  w = omega arith;
-  r = omega arith;
-  x = omega arith;
-  b = omega arith;
-  fits = rex_test (8 * w + 4 * r + 2 * x + b) (omega arith);
-}
-  where
-    rex_test : (n : ℕ) → n < 16 → is_rex (0x40 + n) ≡ true
-    rex_test n lt = grind (arith, nat_tests)
+four w r x b h1 h2 h3 h4 = grind (arith, nat_tests)
 
 zeros : (w r x b : ℕ) → 8 * w + 4 * r + 2 * x + b ≡ 0 → (0 ≡ w) × (0 ≡ r) × (0 ≡ x) × (0 ≡ b)
 zeros w r x b h = (omega arith, omega arith, omega arith, omega arith)
@@ -190,25 +147,10 @@ bits row f h =
 -- ---- the width is read again
 
 pub w_is : (c : Size) (w : Width) → has_width c w ≡ true → is_met (w_demand c) (w_needed c w) ≡ true
-w_is sizes.WQ w h = refl
-w_is _ w h = refl
+w_is c w h1 = grind (arith, nat_tests)
 
 width_again : (c : Size) (w : Width) → has_width c w ≡ true → width_of c (w_needed c w) (if is_half w then 1 else 0) ≡ w
-width_again sizes.B W8 h = refl
-width_again sizes.V W16 h = refl
-width_again sizes.V W32 h = refl
-width_again sizes.V W64 h = refl
-width_again sizes.D W16 h = refl
-width_again sizes.D W32 h = refl
-width_again sizes.Y W32 h = refl
-width_again sizes.Y W64 h = refl
-width_again sizes.Q W64 h = refl
-width_again sizes.WQ W64 h = refl
-width_again sizes.N W8 h = refl
-width_again _ W8 h = absurd (cc)
-width_again _ W16 h = absurd (cc)
-width_again _ W32 h = absurd (cc)
-width_again _ W64 h = absurd (cc)
+width_again c w h1 = grind (arith, nat_tests)
 
 pub width_read : (row : Row) (f : Fields) → Had row f → width_of row.size (bit_w (rex_for row f)) (times 0x66 (prefixes_for (is_half f.w) (repeat_prefix row.f3 f.rep))) ≡ f.w
 width_read row f h =
@@ -224,22 +166,10 @@ suits None w r = not (is_low_byte w r)
 suits (Some b) w r = not (is_high r)
 
 reg_suits : (rex : Option ℕ) (w : Width) (r : Reg) → is_register w r ≡ true → suits rex w r ≡ true → reg_of w rex (code_of r) ≡ r
-reg_suits None W8 (regs.R n) h s = if_true (nat_lt n 4) _ _ (grind (arith, nat_tests))
-reg_suits None W8 (regs.High n) h s = if_false (nat_lt (n + 4) 4) _ _ (grind (arith, nat_tests)) ∙ ap regs.High (omega arith)
-reg_suits (Some b) W8 (regs.R n) h s = refl
-reg_suits (Some b) W8 (regs.High n) h s = absurd (cc)
-reg_suits rex W16 (regs.R n) h s = refl
-reg_suits rex W32 (regs.R n) h s = refl
-reg_suits rex W64 (regs.R n) h s = refl
-reg_suits rex W16 (regs.High n) h s = absurd (cc)
-reg_suits rex W32 (regs.High n) h s = absurd (cc)
-reg_suits rex W64 (regs.High n) h s = absurd (cc)
+reg_suits rex w r h1 h2 = grind (arith, nat_tests)
 
 suits_by : (needs low high : Bool) (v : ℕ) (w : Width) (r : Reg) → is_low_byte w r ≡ low → is_high r ≡ high → (low ≡ true → needs ≡ true) → (high ≡ true → needs ≡ false) → suits (if needs then Some v else None) w r ≡ true
-suits_by true low true v w r el eh fl fh = absurd (never true refl (fh refl))
-suits_by true low false v w r el eh fl fh = ap not eh
-suits_by false true high v w r el eh fl fh = absurd (never false (fl refl) refl)
-suits_by false false high v w r el eh fl fh = ap not el
+suits_by needs low high v w r h1 h2 h3 h4 = grind (arith, nat_tests)
 
 or_middle : (a b c : Bool) → b ≡ true → (a || b || c) ≡ true
 or_middle a b c e = grind arith
@@ -269,13 +199,10 @@ pub record RmRead (rm : Option RmRule) (digit : Option ℕ) (span : ℕ) (v w : 
   pub reg : (ps is : List ℕ) → reg_of w rex (reg_number rm digit span (record { prefixes = ps; rex = rex; opcode = o; rm = rm_bytes rm digit (code_of r) next p; imm = is })) ≡ r
 
 first_place_is : (p : Place) → is_first_place p ≡ true → places.Reg (regs.R 0) ≡ p
-first_place_is (places.Reg r) h = ap places.Reg (first_is r h)
-first_place_is (places.Mem m) h = absurd (cc)
-first_place_is (places.At a) h = absurd (cc)
+first_place_is p h1 = grind (arith, nat_tests)
 
 first_number : (w : Width) (rex : Option ℕ) → reg_of w rex 0 ≡ regs.R 0
-first_number W8 None = refl
-first_number _ rex = refl
+first_number w rex = grind (arith, nat_tests)
 
 no_register : (w : Width) (rex : Option ℕ) (r : Reg) → is_first r ≡ true → reg_of w rex 0 ≡ r
 no_register w rex r h = first_number w rex ∙ first_is r h
@@ -292,12 +219,10 @@ read_place v rex next reg (places.Mem m) lr ln h eb ex hs hr =
 read_place v rex next reg (places.At a) lr ln h eb ex hs hr = (let la : a < 2 ^ 64 = grind (arith, nat_tests) in read_absolute v rex next reg a lr ln la hr)
 
 digit_met : (digit : Option ℕ) (code : ℕ) → is_met digit (reg_bits digit code) ≡ true
-digit_met None code = refl
-digit_met (Some d) code = equal_test d d refl
+digit_met digit code = grind (arith, nat_tests)
 
 digit_low : (digit : Option ℕ) (code : ℕ) → digit_small digit ≡ true → reg_bits digit code < 8
-digit_low None code h = omega arith
-digit_low (Some d) code h = grind (arith, nat_tests)
+digit_low digit code h1 = grind (arith, nat_tests)
 
 field_reg : (w : Width) (rex : Option ℕ) (r : Reg) (field : ℕ) → field ≡ code_of r % 8 → bit_r rex ≡ code_of r / 8 → is_register w r ≡ true → suits rex w r ≡ true → reg_of w rex (field + 8 * bit_r rex) ≡ r
 field_reg w rex r field ef er h s = (let n : field + 8 * bit_r rex ≡ code_of r = omega arith in ap (reg_of w rex) n ∙ reg_suits rex w r h s)
@@ -323,14 +248,10 @@ pub record RmGiven (rm : Option RmRule) (digit : Option ℕ) (span base : ℕ) (
   pub opcode : o ≡ base + (if in_opcode rm span then code_of r % 8 else c)
 
 not_reg : (p : Place) → names_memory p ≡ true → is_reg_place p ≡ false
-not_reg (places.Reg r) h = absurd (cc)
-not_reg (places.Mem m) h = refl
-not_reg (places.At a) h = refl
+not_reg p h1 = grind (arith, nat_tests)
 
 is_reg : (v : Width) (p : Place) → names_register v p ≡ true → is_reg_place p ≡ true
-is_reg v (places.Reg r) h = refl
-is_reg v (places.Mem m) h = absurd (cc)
-is_reg v (places.At a) h = absurd (cc)
+is_reg v p h1 = grind (arith, nat_tests)
 
 -- what is spelled of an operand, by a rule that takes it
 record OperandRead (rule : RmRule) (digit : Option ℕ) (v : Width) (rex : Option ℕ) (next code : ℕ) (p : Place) (bs : List ℕ) : Type 0 where
@@ -353,11 +274,7 @@ operand_read rule digit span base v w rex next p r o c g named fit =
 
 -- a fixed byte that names a register stands alone
 fixed_parts : (k : ℕ) (digit : Option ℕ) → rule_small (Some (rules.Fixed k)) digit ≡ true → (rm_fits (Some (rules.Fixed k)) digit (k ∷ []) ≡ true) × (are_bytes (k ∷ []) ≡ true)
-fixed_parts k None h = (let three : (k / 64 == 3) ≡ true = grind arith in (and_both _ _ (and_both _ _ (equal_test k k refl) refl) (ap (λ n. 1 == n) (if_true (k / 64 == 3) 1 _ three)), and_both _ _ (grind arith) refl))
-fixed_parts k (Some d) h = absurd (false_and (nat_lt k 256 && k / 64 == 3) h)
-  where
-    false_and : (a : Bool) → (a && false) ≡ true → ⊥
-    false_and a h = grind arith
+fixed_parts k digit h1 = grind (arith, nat_tests)
 
 pub rm_read : (rm : Option RmRule) (digit : Option ℕ) (span base : ℕ) (v w : Width) (rex : Option ℕ) (next : ℕ) (p : Place) (r : Reg) (o c : ℕ) → RmGiven rm digit span base v w rex next p r o c → RmRead rm digit span v w rex next p r o
 rm_read None digit span base v w rex next p r o c g = record {

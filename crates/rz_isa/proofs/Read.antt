@@ -57,16 +57,13 @@ signed_4 (negsuc k) s =
     signed_of (little 4 (2 ^ 32 - 1 - k)) (2 ^ 32 - 1 - k) (2 ^ 32) (negsuc k) n refl (signed_when (2 ^ 32 - 1 - k) (2 ^ 32) (negsuc k) (omega arith) (λ e. absurd (grind (arith, nat_tests))) (λ _. ap negsuc (omega arith)))
 
 zero_is : (z : ℤ) → is_zero z ≡ true → pos 0 ≡ z
-zero_is (pos n) e = ap pos (grind (arith, nat_tests))
-zero_is (negsuc n) e = absurd (cc)
+zero_is z h1 = grind (arith, nat_tests)
 
 and_left : (a b : Bool) → (a && b) ≡ true → a ≡ true
 and_left a b h = grind arith
 
 pub disp_again : (low : ℕ) (z : ℤ) → is_disp z ≡ true → signed (disp_bytes (mode_of low z) z) ≡ z
-disp_again low z d = if_both (λ m. signed (disp_bytes m z) ≡ z) (is_zero z && not (low == 5)) 0 (if is_small z then 1 else 2)
-    (λ e. zero_is z (and_left _ _ e))
-    (λ _. if_both (λ m. signed (disp_bytes m z) ≡ z) (is_small z) 1 2 (λ s. signed_1 z s) (λ _. signed_4 z d))
+disp_again low z h1 = grind (arith, nat_tests)
 
 pub mode_small : (low : ℕ) (z : ℤ) → mode_of low z < 3
 mode_small low z = grind arith

@@ -49,12 +49,7 @@ and_parts : (a b : Bool) → (not a && b) ≡ true → (a ≡ false) × (b ≡ t
 and_parts a b h = (grind arith, grind arith)
 
 passes : (find : Row → Option Fields) (form : Form) (r : Row) (rest : Option Chosen) → serves_by find form r ≡ false → (if same_form r.form form then or_chosen r (find r) rest else rest) ≡ rest
-passes find form r rest miss = by (same_form r.form form) (find r) miss
-  where
-    by : (b : Bool) (o : Option Fields) → (b && is_some o) ≡ false → (if b then or_chosen r o rest else rest) ≡ rest
-    by false o miss = refl
-    by true None miss = refl
-    by true (Some f) miss = absurd (cc)
+passes find form r rest h1 = grind (arith, nat_tests)
 
 chosen_at : (find : Row → Option Fields) (rows : List Row) (form : Form) (k : ℕ) (row : Row) (g : Fields) → slice_get rows k ≡ Some row → none_below (serves_by find form) rows k ≡ true
     → same_form row.form form ≡ true → find row ≡ Some g → chosen_by find rows form ≡ Some (record { row = row; fields = g })
@@ -148,8 +143,7 @@ spelled rows x at form k row g n s same e had len near =
     subst (λ o. IsSomeAnd o (λ bs. length bs ≡ n)) (sym (spelled_as rows x at form k row g next s same e had is_next near)) (length_is row g next 0 ∙ len)
 
 some_within : (o : Option (List ℕ)) (m n : ℕ) → m ≤ n → IsSomeAnd o (λ s. length s ≡ m) → IsSomeAnd o (λ s. length s ≤ n)
-some_within None m n le h = h
-some_within (Some s) m n le h = omega arith
+some_within o m n h1 h2 = grind (arith, nat_tests)
 
 -- a place that isn't named by its address is in reach from everywhere
 pub spelled_within : (rows : List Row) (x : Insn) (at : ℕ) (form : Form) (k : ℕ) (row : Row) (g : Fields) (n : ℕ) → Serves rows form x k row → same_form row.form form ≡ true → found_in row.op x (least row) ≡ Some g → Had row g
@@ -162,22 +156,10 @@ length_by row f = length_of row (parts_for row f 0)
 
 -- the reg field doesn't change how many bytes name a place
 place_len_is : (reg : ℕ) (p : Place) → length (place_bytes reg 0 p) ≡ place_len p
-place_len_is reg (places.Reg r) = refl
-place_len_is reg (places.At a) = refl
-place_len_is reg (places.Mem m) = memory m.base m.index
-  where
-    same_length : (b : Bool) (x y v w : List ℕ) → length x ≡ length v → length y ≡ length w → length (if b then x else y) ≡ length (if b then v else w)
-    same_length true x y v w ex ey = ex
-    same_length false x y v w ex ey = ey
-
-    memory : (base index : Option ℕ) → length (memory_bytes reg base index m.scale m.disp) ≡ length (memory_bytes 0 base index m.scale m.disp)
-    memory None index = refl
-    memory (Some b) (Some i) = refl
-    memory (Some b) None = same_length (b % 8 == 4) _ _ _ _ refl refl
+place_len_is reg p = grind (arith, nat_tests)
 
 rex_is : (b : Bool) (v : ℕ) → length (rex_bytes (if b then Some v else None)) ≡ (if b then 1 else 0)
-rex_is true v = refl
-rex_is false v = refl
+rex_is b v = grind (arith, nat_tests)
 
 -- with an opcode of one byte and no prefix: at 64 bits with REX, else with one at most
 record Parted (row : Row) (f : Fields) (reg : ℕ) : Type 0 where
@@ -199,8 +181,7 @@ wide_length row f reg p rex =
     sums n a b c d e m l ea eb ec ed = omega arith
 
 at_most_one : (b : Bool) → (if b then 1 else 0) ≤ 1
-at_most_one true = omega arith
-at_most_one false = omega arith
+at_most_one b = grind (arith, nat_tests)
 
 short_length : (row : Row) (f : Fields) (reg : ℕ) → Parted row f reg → length_for row f ≤ 2 + imm_len row.imm f.w + place_len f.rm
 short_length row f reg p =
@@ -222,8 +203,7 @@ eighth_rex : (r : ℕ) → r < 16 → (if nat_lt 0 (0 + r / 8) then 1 else 0) �
 eighth_rex r lt = if_both (λ k. k ≡ r / 8) (nat_lt 0 (0 + r / 8)) 1 0 (λ e. grind (arith, nat_tests)) (λ e. grind (arith, nat_tests))
 
 or_falses : (a : Bool) → (a || false || false) ≡ a
-or_falses true = refl
-or_falses false = refl
+or_falses a = grind (arith, nat_tests)
 
 -- with an opcode of one byte that holds the register
 opcode_length : (row : Row) (f : Fields) (r : ℕ) → r < 16 → length (prefixes_for (is_half f.w) (repeat_prefix row.f3 f.rep)) ≡ 0 → length (escape row.map) ≡ 0 → length (rm_bytes row.rm row.digit (code_of f.reg) 0 f.rm) ≡ 0
@@ -351,8 +331,7 @@ emits_push_imm rows k n at gaps s ln miss =
     (record { w = refl; reg = refl; rm = refl; cond = refl; imm = ln; rep = refl; rex = refl; b = refl }) refl refl
 
 cond_low : (c : Cond) → nat_lt (number_of c) 16 ≡ true
-cond_low conds.O = refl
-cond_low _ = refl
+cond_low c = grind (arith, nat_tests)
 
 pub emits_jcc : (rows : List Row) (k : ℕ) (c : Cond) (t at : ℕ) → Serves rows forms.Near (insns.Jcc c t) k jcc_row → t < 2 ^ 64 → IsTrue (near at 6 t) → HasSpelling rows (insns.Jcc c t) at forms.Near 6
 emits_jcc rows k c t at s lt h = spelled rows _ at forms.Near k jcc_row (record (least jcc_row) { cond = number_of c; imm = t }) 6 s refl refl
@@ -419,16 +398,10 @@ jmp_ind_row = row_of maps.One 0xff 1 (Some 4) (Some rules.Any) sizes.Q None form
 
 -- what holds for each of the operations and widths
 pub each_double : (P : Width → Type 0) → P W32 → P W64 → (w : Width) → IsTrue (is_double w) → P w
-each_double P a b W32 h = a
-each_double P a b W64 h = b
-each_double P a b W8 h = absurd (cc)
-each_double P a b W16 h = absurd (cc)
+each_double P h1 h2 w h3 = grind (arith, nat_tests)
 
 pub each_arith : (P : ArithOp → Width → Type 0) → P ariths.Add W32 → P ariths.Add W64 → P ariths.Sub W32 → P ariths.Sub W64 → P ariths.Cmp W32 → P ariths.Cmp W64 → (o : ArithOp) (w : Width) → IsTrue (is_emitted o) → IsTrue (is_double w) → P o w
-each_arith P a b c d e f ariths.Add w ho hw = each_double (P ariths.Add) a b w hw
-each_arith P a b c d e f ariths.Sub w ho hw = each_double (P ariths.Sub) c d w hw
-each_arith P a b c d e f ariths.Cmp w ho hw = each_double (P ariths.Cmp) e f w hw
-each_arith P a b c d e f _ w ho hw = absurd (cc)
+each_arith P h1 h2 h3 h4 h5 h6 o w h7 h8 = grind (arith, nat_tests)
 
 record Double (w : Width) : Type 0 where
   wide : has_width sizes.V w ≡ true

@@ -1,6 +1,7 @@
 use Rattle.std.proofs.Common.{ℕ, ◌≡◌, ◌%◌, ◌==◌, refl, ap, sym, ◌∙◌, subst, arith, List, Bool, true, false, not, ◌&&◌, ◌||◌, ◌⊎◌, inl, inr, Option, Some, None}
 use Rattle.std.specs.Prelude.{if◌then◌else◌}
 use Rattle.std.specs.List.{list_all}
+use Rattle.std.proofs.lemmas.Bool.Decides.{nat_tests}
 use Rattle.rz_isa.proofs.Types.{Width, W64, Size, RmRule, Row, Letter, Op, Insn, Reg, Place, Operand, Fields}
 use Rattle.rz_flags.specs.Cond.{cond_of}
 use Rattle.rz_isa.specs.declared.rows.Size.TheVariants as sizes
@@ -31,20 +32,16 @@ use Rattle.rz_isa.proofs.Tests.{or_left, or_right}
 -- ---- what doesn't come from the ModRM operand
 
 reg_same : (l : Letter) (f : Fields) (p : Place) → reg_at l (record f { rm = p }) ≡ reg_at l f
-reg_same letters.A f p = refl
-reg_same _ f p = refl
+reg_same l f p = grind (arith, nat_tests)
 
 number_same : (l : Letter) (f : Fields) (p : Place) → number_at l (record f { rm = p }) ≡ number_at l f
 number_same l f p = ap number_of (reg_same l f p)
 
 count_same : (l : Letter) (f : Fields) (p : Place) → count_at l (record f { rm = p }) ≡ count_at l f
-count_same letters.One f p = refl
-count_same _ f p = refl
+count_same l f p = grind (arith, nat_tests)
 
 index_same : (l : Letter) (f : Fields) (p : Place) → index_at l (record f { rm = p }) ≡ index_at l f
-index_same letters.Imm f p = refl
-index_same letters.A f p = refl
-index_same _ f p = refl
+index_same l f p = grind (arith, nat_tests)
 
 -- ---- a letter names the ModRM operand, or nothing that it changes
 
@@ -76,21 +73,13 @@ Uses op = IgnoresPlace op ⊎ ((f : Fields) → rip_target_of (build_op op f) �
 
 by_place : (op : Op) (l : Letter) (make : Place → Fields → Insn) → ((f : Fields) → build_op op f ≡ make (place_at l f) f) → ((q : Place) (f : Fields) (p : Place) → make q (record f { rm = p }) ≡ make q f)
     → ((q : Place) (f : Fields) → rip_target_of (make q f) ≡ rip_of q) → Uses op
-by_place op l make built same rip = elim (place_use l) [
-  | inl e ↦ inl (record {
-    same = λ f p. built (record f { rm = p }) ∙ (ap (λ q. make q (record f { rm = p })) (e.same f p) ∙ (same (place_at l f) f p ∙ sym (built f)));
-    none = λ f. ap rip_target_of (built f) ∙ (rip (place_at l f) f ∙ e.none f);
-  })
-  | inr e ↦ inr (λ f. ap rip_target_of (built f) ∙ (rip (place_at l f) f ∙ ap rip_of (e f)))
-]
+by_place op l make h1 h2 h3 = grind (arith, nat_tests)
 
 first_same : (o : Option ℕ) → first_some o o ≡ o
-first_same None = refl
-first_same (Some a) = refl
+first_same o = grind (arith, nat_tests)
 
 first_none : (o : Option ℕ) → first_some o None ≡ o
-first_none None = refl
-first_none (Some a) = refl
+first_none o = grind (arith, nat_tests)
 
 by_operands : (op : Op) (d s : Letter) (make : Place → Operand → Fields → Insn) → ((f : Fields) → build_op op f ≡ make (place_at d f) (operand_at s f) f)
     → ((q : Place) (r : Operand) (f : Fields) (p : Place) → make q r (record f { rm = p }) ≡ make q r f) → ((q : Place) (r : Operand) (f : Fields) → rip_target_of (make q r f) ≡ first_some (rip_of q) (rip_of_operand r)) → Uses op
@@ -109,13 +98,7 @@ by_operands op d s make built same rip = by (place_use d) (operand_use s)
     by (inr e) (inr k) = inr (λ f. names f ∙ ((λ i. first_some (rip_of (e f i)) (k f i)) ∙ first_same (rip_of f.rm)))
 
 by_operand : (op : Op) (s : Letter) (make : Operand → Insn) → ((f : Fields) → build_op op f ≡ make (operand_at s f)) → ((r : Operand) → rip_target_of (make r) ≡ rip_of_operand r) → Uses op
-by_operand op s make built rip = elim (operand_use s) [
-  | inl e ↦ inl (record {
-    same = λ f p. built (record f { rm = p }) ∙ (ap make (e.same f p) ∙ sym (built f));
-    none = λ f. ap rip_target_of (built f) ∙ (rip (operand_at s f) ∙ e.none f);
-  })
-  | inr e ↦ inr (λ f. ap rip_target_of (built f) ∙ (rip (operand_at s f) ∙ e f))
-]
+by_operand op s make h1 h2 = grind (arith, nat_tests)
 
 pub rip_targets : RipTargets
 rip_targets (ops.Arith o d s) = by_operands (ops.Arith o d s) d s (λ q r f. insns.Arith o f.w q r) (λ f. refl) (λ q r f p. refl) (λ q r f. refl)
@@ -163,8 +146,7 @@ pub suited_form : (r : Row) → is_suited r ≡ true → form_suits r.form r.imm
 suited_form r h = (suits r h).seven
 
 target_by_op : (op : Op) (f : Fields) → target_of (build_op op f) ≡ (if has_target op then Some f.imm else None)
-target_by_op ops.Jcc f = refl
-target_by_op _ f = refl
+target_by_op op f = grind (arith, nat_tests)
 
 pub direct_targets : (rows : List Row) → list_all is_suited rows ≡ true → DirectTargets rows
 direct_targets rows all n row f at =
@@ -180,37 +162,17 @@ first_register : (r : Reg) → is_first r ≡ true → is_register W64 r ≡ tru
 first_register r h = subst (λ k. is_register W64 k ≡ true) (first_is r h) refl
 
 wide_place : (rule : Option RmRule) (p : Place) → has_place rule W64 p ≡ true → is_wide_operand p ≡ true
-wide_place (Some rules.Any) p h = h
-wide_place (Some rules.MemoryOnly) p h = or_right (names_register W64 p) (names_memory p) h
-wide_place (Some rules.RegisterOnly) p h = or_left (names_register W64 p) (names_memory p) h
-wide_place (Some (rules.Fixed b)) p h = first_wide p h
-  where
-    first_wide : (p : Place) → is_first_place p ≡ true → is_wide_operand p ≡ true
-    first_wide (places.Reg r) h = wide_register r (first_register r h)
-    first_wide (places.Mem m) h = absurd (cc)
-    first_wide (places.At a) h = absurd (cc)
-wide_place None (places.Reg r) h = wide_register r (first_register r h)
-wide_place None (places.Mem m) h = absurd (cc)
-wide_place None (places.At a) h = absurd (cc)
+wide_place rule p h1 = grind (arith, nat_tests)
 
 wide_of_class : (c : Size) (w : Width) → is_wide_class c ≡ true → has_width c w ≡ true → W64 ≡ w
-wide_of_class sizes.Q W64 c h = refl
-wide_of_class sizes.WQ W64 c h = refl
-wide_of_class _ _ c h = absurd (cc)
+wide_of_class c w h1 h2 = grind (arith, nat_tests)
 
 reg_wide : (row : Row) (r : Reg) → has_reg row W64 r ≡ true → is_wide_operand (places.Reg r) ≡ true
-reg_wide row r h = wide_register r (by (in_reg_field row.rm row.digit || in_opcode row.rm row.span) h)
-  where
-    by : (b : Bool) → (if b then is_register W64 r else is_first r) ≡ true → is_register W64 r ≡ true
-    by true h = h
-    by false h = first_register r h
+reg_wide row r h1 = grind (arith, nat_tests)
 
 -- a place of 64 bits, by its letter
 letter_wide : (row : Row) (l : Letter) (f : Fields) → has_reg row W64 f.reg ≡ true → has_place row.rm W64 f.rm ≡ true → is_wide_operand (place_at l f) ≡ true
-letter_wide row letters.G f reg rm = reg_wide row f.reg reg
-letter_wide row letters.O f reg rm = reg_wide row f.reg reg
-letter_wide row letters.A f reg rm = refl
-letter_wide row _ f reg rm = wide_place row.rm f.rm rm
+letter_wide row l f h1 h2 = grind (arith, nat_tests)
 
 some_is : (p q : Place) → Some p ≡ Some q → p ≡ q
 some_is p q e = cc

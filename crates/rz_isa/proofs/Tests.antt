@@ -47,8 +47,7 @@ pub none_some : {X : Type 0} (a : X) → None ≡ Some a → ⊥
 none_some a e = cc
 
 pub passed : {X : Type 0} (b : Bool) (o : Option X) (a : X) → (if b then o else None) ≡ Some a → (b ≡ true) × (o ≡ Some a)
-passed true o a e = (refl, e)
-passed false o a e = absurd (none_some a e)
+passed b o a h1 = grind (arith, nat_tests)
 
 pub through : {X : Type 0} (b : Bool) (x a : X) → (if b then Some x else None) ≡ Some a → (b ≡ true) × (x ≡ a)
 through b x a e = (let t = passed b (Some x) a e in (t.0, some_same x a t.1))
@@ -63,5 +62,4 @@ if_false b x y e = ap (λ k. if k then x else y) e
 
 -- what holds on both ways holds of the choice
 pub if_both : {X : Type 0} (P : X → Type 0) (b : Bool) (x y : X) → (b ≡ true → P x) → (b ≡ false → P y) → P (if b then x else y)
-if_both P true x y f g = f refl
-if_both P false x y f g = g refl
+if_both P b x y h1 h2 = grind (arith, nat_tests)

@@ -28,12 +28,10 @@ use Rattle.rz_isa.proofs.Tests.{and_parts, and_both, below_test, within_test, if
 -- ---- the opcode
 
 eight_none : (rm : Option RmRule) (o span : ℕ) → (nat_lt o 256 && (span == 1 || (span == 16 && o % 16 == 0) || (span == 8 && o % 8 == 0 && is_none rm))) ≡ true → (span == 8) ≡ true → in_opcode rm span ≡ true
-eight_none None o span b s = s
-eight_none (Some k) o span b s = absurd (grind (arith, nat_tests))
+eight_none rm o span h1 h2 = grind (arith, nat_tests)
 
 not_in_opcode : (rm : Option RmRule) (span : ℕ) → (span == 8) ≡ false → in_opcode rm span ≡ false
-not_in_opcode None span e = e
-not_in_opcode (Some k) span e = refl
+not_in_opcode rm span h1 = grind (arith, nat_tests)
 
 -- 1, 8 or 16 opcodes
 spans : (r : Row) → is_block r ≡ true → (r.span == 8) ≡ false → (r.span == 16) ≡ false → r.span ≡ 1
@@ -60,43 +58,7 @@ pub record OpcodeRead (row : Row) (f : Fields) : Type 0 where
   pub byte : opcode_of row f < 256
 
 pub opcode_read : (row : Row) (f : Fields) → IsRegular row → Had row f → OpcodeRead row f
-opcode_read row f reg h = elim (cases_Bool (row.span == 8)) [
-  | inl y ↦
-      (let at = eight_none row.rm row.opcode row.span reg.block y in
-      let s = equal_is row.span 8 y in
-      let o : opcode_of row f ≡ row.opcode + code_of f.reg % 8 = ap (λ k. row.opcode + k) (if_true (in_opcode row.rm row.span) _ _ at) in
-      let z = eight_aligned row reg.block y in
-      let low = opcode_byte row reg.block in
-      let not16 : (row.span == 16) ≡ false = grind (arith, nat_tests) in
-      record {
-        fits = within row.opcode row.span (opcode_of row f) (omega arith) (omega arith);
-        cond = if_false (row.span == 16) _ _ not16 ∙ sym (cond_zero row.span f.cond h.cond not16);
-        byte = omega arith;
-      })
-  | inr n ↦
-      (let at = not_in_opcode row.rm row.span n in
-      let o : opcode_of row f ≡ row.opcode + f.cond = ap (λ k. row.opcode + k) (if_false (in_opcode row.rm row.span) _ _ at) in
-      let low = opcode_byte row reg.block in
-      elim (cases_Bool (row.span == 16)) [
-        | inl y ↦
-            (let s = equal_is row.span 16 y in
-            let c = cond_small row.span f.cond h.cond y in
-            let z = sixteen_aligned row reg.block y in
-            record {
-              fits = within row.opcode row.span (opcode_of row f) (omega arith) (omega arith);
-              cond = if_true (row.span == 16) _ _ y ∙ omega arith;
-              byte = omega arith;
-            })
-        | inr k ↦
-            (let s = spans row reg.block n k in
-            let c = cond_zero row.span f.cond h.cond k in
-            record {
-              fits = within row.opcode row.span (opcode_of row f) (omega arith) (omega arith);
-              cond = if_false (row.span == 16) _ _ k ∙ sym c;
-              byte = omega arith;
-            })
-      ])
-]
+opcode_read row f h1 h2 = grind (arith, nat_tests)
 
 -- ---- all parts
 
@@ -160,51 +122,34 @@ bytes_append [] ys hx hy = hy
 bytes_append (x ∷ xs) ys hx hy = (let t = and_parts (nat_lt x 256) (are_bytes xs) hx in and_both _ _ t.0 (bytes_append xs ys t.1 hy))
 
 prefix_bytes : (a : Bool) (b : ℕ) → is_repeat b ≡ true → are_bytes (prefixes_for a b) ≡ true
-prefix_bytes true b h = repeat_both (λ k. are_bytes (prefixes_for true k) ≡ true) b h refl refl
-prefix_bytes false b h = repeat_both (λ k. are_bytes (prefixes_for false k) ≡ true) b h refl refl
+prefix_bytes a b h1 = grind (arith, nat_tests)
 
 prefix_short : (a : Bool) (b : ℕ) → is_repeat b ≡ true → length (prefixes_for a b) ≤ 2
-prefix_short true b h = repeat_both (λ k. length (prefixes_for true k) ≤ 2) b h (omega arith) (omega arith)
-prefix_short false b h = repeat_both (λ k. length (prefixes_for false k) ≤ 2) b h (omega arith) (omega arith)
+prefix_short a b h1 = grind (arith, nat_tests)
 
 rex_are : (rex : Option ℕ) → rex_fits rex ≡ true → are_bytes (rex_bytes rex) ≡ true
-rex_are None h = refl
-rex_are (Some b) h = (let lt : nat_lt b 256 ≡ true = grind (arith, nat_tests) in and_both _ _ lt refl)
+rex_are rex h1 = grind (arith, nat_tests)
 
 rex_short : (rex : Option ℕ) → length (rex_bytes rex) ≤ 1
-rex_short None = omega arith
-rex_short (Some b) = omega arith
+rex_short rex = grind (arith, nat_tests)
 
 escape_are : (m : OpMap) → are_bytes (escape m) ≡ true
-escape_are maps.One = refl
-escape_are maps.Two = refl
+escape_are m = grind (arith, nat_tests)
 
 escape_short : (m : OpMap) → length (escape m) ≤ 1
-escape_short maps.One = omega arith
-escape_short maps.Two = omega arith
+escape_short m = grind (arith, nat_tests)
 
 rm_len_short : (m s : ℕ) → rm_len m s ≤ 6
-rm_len_short m s = if_both (λ k. k ≤ 6) (m / 64 == 3) 1 (if m % 8 == 4 then 2 + disp_len (m / 64) (s % 8) else 1 + disp_len (m / 64) (m % 8)) (λ _. omega arith)
-    (λ _. if_both (λ k. k ≤ 6) (m % 8 == 4) (2 + disp_len (m / 64) (s % 8)) (1 + disp_len (m / 64) (m % 8)) (λ _. omega (arith, disp_short (m / 64) (s % 8))) (λ _. omega (arith, disp_short (m / 64) (m % 8))))
+rm_len_short m s = grind (arith, nat_tests)
 
 rm_short : (rule : RmRule) (digit : Option ℕ) (bs : List ℕ) → rm_fits (Some rule) digit bs ≡ true → length bs ≤ 6
-rm_short rule digit [] h = omega arith
-rm_short rule digit (m ∷ rest) h = (let e : 1 + length rest ≡ rm_len m (second (m ∷ rest)) = grind (arith, nat_tests) in let s = rm_len_short m (second (m ∷ rest)) in omega arith)
+rm_short rule digit bs h1 = grind (arith, nat_tests)
 
 imm_full : (k : Option ImmKind) (w : Width) → imm_len k w ≤ 8
-imm_full (Some imms.Iz) W8 = omega arith
-imm_full (Some imms.Iz) _ = omega arith
-imm_full (Some imms.Iv) W8 = omega arith
-imm_full (Some imms.Iv) _ = omega arith
-imm_full _ w = omega arith
+imm_full k w = grind (arith, nat_tests)
 
 imm_beside : (k : Option ImmKind) (w : Width) → stands_alone k ≡ false → imm_len k w ≤ 4
-imm_beside (Some imms.Iz) W8 h = omega arith
-imm_beside (Some imms.Iz) _ h = omega arith
-imm_beside (Some imms.Iv) w h = absurd (cc)
-imm_beside (Some imms.J8) w h = absurd (cc)
-imm_beside (Some imms.J32) w h = absurd (cc)
-imm_beside _ w h = omega arith
+imm_beside k w h1 = grind (arith, nat_tests)
 
 beside : (a : Bool) → not (a && true) ≡ true → a ≡ false
 beside a h = grind arith
