@@ -1,25 +1,19 @@
-use Rattle.std.proofs.Common.{ℕ, ◌≡◌, ◌%◌, ◌^◌, ◌<◌, ◌==◌, refl, ap, sym, ◌∙◌, arith, Bool, true, false, ◌&&◌, Option, Some}
+use Rattle.std.proofs.Common.{ℕ, ◌≡◌, ◌%◌, ◌^◌, ◌<◌, refl, ap, sym, ◌∙◌, arith, Bool, true, ◌&&◌, Option, Some}
 use Rattle.std.specs.Prelude.{⊤}
 use Rattle.std.specs.Option.{option_and_then}
 use Rattle.std.proofs.lemmas.Bool.Decides.{nat_tests}
 use Rattle.std.proofs.lemmas.Option.{option_and_then_some}
 use Rattle.rz_isa.proofs.Types.{Cond, Letter, Op, Insn, Reg, Place, Operand, Count, BitIndex, Fields}
-use Rattle.rz_flags.specs.declared.Cond.TheVariants as conds
 use Rattle.rz_flags.specs.Cond.{cond_of, number_of as number_of_cond}
-use Rattle.rz_isa.specs.declared.rows.Letter.TheVariants as letters
 use Rattle.rz_isa.specs.declared.rows.Op.TheVariants as ops
 use Rattle.rz_isa.specs.declared.instruction.Insn.TheVariants as insns
 use Rattle.rz_isa.specs.declared.instruction.Reg.TheVariants as regs
-use Rattle.rz_isa.specs.declared.instruction.Place.TheVariants as places
-use Rattle.rz_isa.specs.declared.instruction.Operand.TheVariants as operands
-use Rattle.rz_isa.specs.declared.instruction.Count.TheVariants as counts
-use Rattle.rz_isa.specs.declared.instruction.BitIndex.TheVariants as indexes
 use Rattle.rz_isa.specs.Fields.{build_op, letter_width, is_rep, place_at, operand_at, reg_at, number_of, number_at, count_at, index_at}
 use Rattle.rz_isa.specs.Having.{is_first}
 use Rattle.rz_isa.specs.Finding.{with_place, with_operand, with_reg, with_number, with_count, with_index, same_width, same_truth, same_arith, same_unary, same_wide, same_shift, same_bit, same_scan, same_change, rep_byte, found_in}
 use Rattle.rz_isa.proofs.Equal.{same_width-is, same_truth-is, same_arith-is, same_unary-is, same_wide-is, same_shift-is, same_bit-is, same_scan-is, same_change-is}
 use Rattle.rz_isa.specs.Regular.{Slot, nowhere, in_rm, in_reg, in_imm, place_slot, operand_slot, reg_slot, count_slot, index_slot, apart, operands_apart}
-use Rattle.rz_isa.proofs.Tests.{and_parts, some_same, passed, through, and_three, equal_is}
+use Rattle.rz_isa.proofs.Tests.{and_parts, some_same, passed, and_three}
 
 -- ---- a step changes the field of its letter alone
 

@@ -4,9 +4,6 @@ use Rattle.std.specs.List.{list_all}
 use Rattle.std.proofs.lemmas.Bool.{cases_Bool}
 use Rattle.std.proofs.lemmas.Bool.Decides.{nat_tests}
 use Rattle.rz_isa.proofs.Types.{Form, RmRule, Row, Insn, Place, Fields}
-use Rattle.rz_isa.specs.declared.rows.Form.TheVariants as forms
-use Rattle.rz_isa.specs.declared.rows.RmRule.TheVariants as rules
-use Rattle.rz_isa.specs.declared.instruction.Place.TheVariants as places
 use Rattle.rz_isa.specs.Spelling.{bytes_of, rex_bytes, escape, imm_len, SpelledBy}
 use Rattle.rz_isa.specs.Fields.{fields, build_op}
 use Rattle.rz_isa.specs.Having.{code_of}

@@ -1,27 +1,22 @@
-use Rattle.std.proofs.Common.{ℕ, zero, suc, ◌≡◌, ◌+◌, ◌-◌, ◌*◌, ◌/◌, ◌%◌, ◌^◌, ◌<◌, ◌≤◌, ◌==◌, refl, ap, sym, ◌∙◌, subst, arith, List, [], ◌∷◌, length, Bool, true, false, not, ◌&&◌, ◌||◌, inl, inr, Option, Some, None}
+use Rattle.std.proofs.Common.{ℕ, zero, suc, ◌≡◌, ◌+◌, ◌*◌, ◌/◌, ◌%◌, ◌^◌, ◌<◌, ◌≤◌, ◌==◌, refl, ap, sym, ◌∙◌, subst, arith, List, [], ◌∷◌, length, Bool, true, false, not, ◌&&◌, ◌||◌, inl, inr, Option, Some, None}
 use Rattle.std.specs.Prelude.{nat_lt, is_some, if◌then◌else◌}
 use Rattle.std.proofs.lemmas.Bool.{cases_Bool}
 use Rattle.std.proofs.lemmas.Bool.Decides.{nat_tests}
 use Rattle.rz_isa.proofs.Types.{Width, W8, W16, W32, W64, OpMap, F3Rule, Size, RmRule, ImmKind, Row, Op, Place}
-use Rattle.rz_isa.specs.declared.rows.OpMap.TheVariants as maps
-use Rattle.rz_isa.specs.declared.rows.F3Rule.TheVariants as f3s
-use Rattle.rz_isa.specs.declared.rows.Size.TheVariants as sizes
 use Rattle.rz_isa.specs.declared.rows.RmRule.TheVariants as rules
 use Rattle.rz_isa.specs.declared.rows.ImmKind.TheVariants as imms
-use Rattle.rz_isa.specs.declared.rows.Letter.TheVariants as letters
-use Rattle.rz_isa.specs.declared.rows.Op.TheVariants as ops
 use Rattle.rz_isa.specs.declared.instruction.Reg.TheVariants as regs
 use Rattle.rz_isa.specs.declared.instruction.Place.TheVariants as places
 use Rattle.rz_num.specs.Bytes.{are_bytes}
 use Rattle.rz_isa.specs.Number.{number, numbers, extended, displaced_by}
 use Rattle.rz_isa.specs.Spelling.{Parts, Fits, bit_w, bit_r, bit_x, bit_b, is_met, w_demand, b_demand, disp_len, rm_len, second, rm_fits, width_of, width_at, imm_len, times}
 use Rattle.rz_isa.specs.Fields.{reg_of, index_of, base_of, sib_mem, base_mem, behind_one, place_of, rm_place, rm_width, reg_field, reg_number, imm_of, repeat_in, rep_of, fields}
-use Rattle.rz_isa.specs.Having.{is_wide, has_width, code_of, is_register, is_first, is_high, is_low_byte, in_reg_field, in_opcode, is_number, is_index, is_memory, names_register, names_memory, has_place, has_cond, has_imm, is_repeat, has_rep, w_needed, x_needed, place_b, b_needed, rex_needed, low_byte_place, high_place, number_in, needs_rex, bars_rex, opcode_of, can_have}
+use Rattle.rz_isa.specs.Having.{has_width, code_of, is_register, is_first, is_high, is_low_byte, in_reg_field, in_opcode, is_number, is_index, is_memory, names_register, names_memory, has_place, has_cond, has_imm, is_repeat, has_rep, w_needed, x_needed, place_b, b_needed, rex_needed, low_byte_place, high_place, needs_rex, bars_rex, opcode_of, can_have}
 use Rattle.rz_isa.specs.Regular.{is_regular, is_block, is_exchange}
 use Rattle.rz_isa.proofs.Numbers.{number_less, numbers_of, numbers_full, signed_is_disp, extended_byte, extended_four}
 use Rattle.rz_isa.proofs.Again.{can_of}
 use Rattle.rz_isa.proofs.Inverse.{IsRegular, regular_of}
-use Rattle.rz_isa.proofs.Tests.{never, if_true, if_false, if_both, and_three, all_three, equal_is, or_left, or_right, below_test}
+use Rattle.rz_isa.proofs.Tests.{if_true, if_false, if_both, and_three, all_three, equal_is, or_left, or_right, below_test}
 use Rattle.rz_isa.proofs.Lesser.{first_low}
 
 -- The fields of a spelling are fields that its row can have.

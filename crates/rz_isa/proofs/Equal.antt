@@ -1,12 +1,5 @@
-use Rattle.std.proofs.Common.{◌≡◌, refl, arith, Bool, true, false}
-use Rattle.rz_isa.proofs.Types.{Width, W8, W16, W32, W64, ArithOp, UnaryOp, WideOp, ShiftOp, BitOp, ScanOp, FlagOp}
-use Rattle.rz_flags.specs.declared.ArithOp.TheVariants as ariths
-use Rattle.rz_flags.specs.declared.UnaryOp.TheVariants as unaries
-use Rattle.rz_flags.specs.declared.WideOp.TheVariants as wides
-use Rattle.rz_flags.specs.declared.ShiftOp.TheVariants as shifts
-use Rattle.rz_flags.specs.declared.BitOp.TheVariants as bits
-use Rattle.rz_flags.specs.declared.ScanOp.TheVariants as scans
-use Rattle.rz_flags.specs.declared.FlagOp.TheVariants as changes
+use Rattle.std.proofs.Common.{◌≡◌, arith, Bool, true}
+use Rattle.rz_isa.proofs.Types.{Width, ArithOp, UnaryOp, WideOp, ShiftOp, BitOp, ScanOp, FlagOp}
 use Rattle.rz_isa.specs.Finding.{same_width, same_truth, same_arith, same_unary, same_wide, same_shift, same_bit, same_scan, same_change}
 
 -- The tests of equality hold of equal values alone, and of each value and itself.

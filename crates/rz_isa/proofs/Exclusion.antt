@@ -5,7 +5,6 @@ use Rattle.std.proofs.Math.Seq.{take-append_seam, drop-append_seam}
 use Rattle.std.proofs.lemmas.Bool.{cases_Bool}
 use Rattle.std.proofs.lemmas.Bool.Decides.{nat_tests}
 use Rattle.rz_isa.proofs.Types.{OpMap, RmRule, Row}
-use Rattle.rz_isa.specs.declared.rows.OpMap.TheVariants as maps
 use Rattle.rz_isa.specs.Spelling.{Parts, bytes_of, Fits, times, prefixes_fit, is_met, clash, f3_demand, w_demand, b_demand, opcode_fits, rm_fits, rm_len, second, imm_len, width_of, bit_w, bit_b}
 use Rattle.rz_isa.specs.Reading.{Head, Opcode, head_at}
 use Rattle.rz_isa.specs.Table.{opcode_plain, digit_ruled, each_from, is_plain, same_map, clash_at, shared_clash, excludes, all_exclude}

@@ -1,12 +1,10 @@
-use Rattle.std.proofs.Common.{ℕ, ◌≡◌, ◌≤◌, List, [], ◌∷◌, ◌++◌, Option, Some, None, refl, arith, Bool, true, false, not, append_assoc, inl, inr}
+use Rattle.std.proofs.Common.{ℕ, ◌≡◌, ◌≤◌, List, [], ◌∷◌, ◌++◌, Option, Some, refl, arith, Bool, true, false, not, append_assoc}
 use Rattle.std.specs.Prelude.{nat_le}
 use Rattle.std.specs.List.{take_while, list_all}
-use Rattle.std.proofs.lemmas.Bool.{cases_Bool}
 use Rattle.std.proofs.lemmas.Bool.Decides.{nat_tests}
 use Rattle.std.proofs.lemmas.Grind.{common_steps}
 use Rattle.std.proofs.lemmas.List.Sums.{take_while-cons}
 use Rattle.rz_isa.proofs.Types.{OpMap, Row}
-use Rattle.rz_isa.specs.declared.rows.OpMap.TheVariants as maps
 use Rattle.rz_isa.specs.Spelling.{is_prefix, is_rex, rex_bytes, rex_fits, escape, Parts, bytes_of, Fits, times, most, prefixes_fit}
 use Rattle.rz_isa.specs.Table.{opcode_plain}
 use Rattle.rz_isa.specs.Reading.{skip_while, rex_at, behind_rex, opcode_at, head_at}

@@ -4,9 +4,6 @@ use Rattle.std.specs.Option.{option_and_then}
 use Rattle.std.proofs.lemmas.Bool.Decides.{nat_tests}
 use Rattle.std.proofs.lemmas.Option.{option_and_then_some}
 use Rattle.rz_isa.proofs.Types.{Width, OpMap, RmRule, ImmKind, Row, Op, Insn, Fields}
-use Rattle.rz_isa.specs.declared.rows.ImmKind.TheVariants as imms
-use Rattle.rz_isa.specs.declared.rows.Letter.TheVariants as letters
-use Rattle.rz_isa.specs.declared.rows.Op.TheVariants as ops
 use Rattle.rz_isa.specs.Spelling.{b_demand}
 use Rattle.rz_isa.specs.Fields.{build_op}
 use Rattle.rz_isa.specs.Having.{has_imm, in_opcode, can_have}

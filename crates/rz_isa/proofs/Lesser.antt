@@ -1,19 +1,13 @@
-use Rattle.std.proofs.Common.{ℕ, ◌≡◌, ◌+◌, ◌*◌, ◌/◌, ◌≤◌, ◌==◌, refl, ap, sym, ◌∙◌, subst, arith, Bool, true, false, not, ◌&&◌, ◌||◌, ◌⊎◌, inl, inr, Option, Some}
+use Rattle.std.proofs.Common.{ℕ, ◌≡◌, ◌+◌, ◌*◌, ◌/◌, ◌≤◌, ◌==◌, refl, ap, sym, ◌∙◌, subst, arith, Bool, true, false, not, ◌&&◌, ◌||◌, ◌⊎◌, inl, inr, Option}
 use Rattle.std.specs.Prelude.{nat_lt, if◌then◌else◌}
-use Rattle.std.proofs.lemmas.Bool.{cases_Bool}
 use Rattle.std.proofs.lemmas.Bool.Decides.{nat_tests}
-use Rattle.rz_isa.proofs.Types.{Width, W8, F3Rule, Size, RmRule, ImmKind, Row, Reg, Fields}
-use Rattle.rz_isa.specs.declared.rows.F3Rule.TheVariants as f3s
-use Rattle.rz_isa.specs.declared.rows.Size.TheVariants as sizes
-use Rattle.rz_isa.specs.declared.rows.RmRule.TheVariants as rules
-use Rattle.rz_isa.specs.declared.rows.ImmKind.TheVariants as imms
+use Rattle.rz_isa.proofs.Types.{Width, F3Rule, Size, RmRule, ImmKind, Row, Reg, Fields}
 use Rattle.rz_isa.specs.declared.instruction.Reg.TheVariants as regs
 use Rattle.rz_isa.specs.Spelling.{is_met, b_demand}
 use Rattle.rz_isa.specs.Fields.{rm_width, number_of}
 use Rattle.rz_isa.specs.Having.{is_byte, has_width, is_register, is_first, is_high, is_low_byte, in_reg_field, in_opcode, has_reg, has_place, has_cond, has_imm, has_rep, code_of, w_needed, x_needed, place_b, b_needed, rex_needed, low_byte_place, high_place, bars_rex, needs_rex, opcode_of}
 use Rattle.rz_isa.specs.Finding.{least_width, least_place, least}
 use Rattle.rz_isa.specs.Regular.{is_byte_class}
-use Rattle.rz_isa.proofs.Built.{first_is}
 use Rattle.rz_isa.proofs.Again.{Below, Numbered, Had, least_place_b}
 use Rattle.rz_isa.proofs.Tests.{never, if_both}
 

@@ -4,8 +4,7 @@ use Rattle.std.specs.List.{list_all}
 use Rattle.std.specs.Option.{option_and_then}
 use Rattle.std.proofs.lemmas.Bool.{cases_Bool}
 use Rattle.std.proofs.lemmas.Bool.Decides.{nat_tests}
-use Rattle.rz_isa.proofs.Types.{Cond, ArithOp, Width, W8, W16, W32, W64, Form, OpMap, RmRule, Size, ImmKind, Op, Row, Insn, Mem, Place, Fields}
-use Rattle.rz_flags.specs.declared.Cond.TheVariants as conds
+use Rattle.rz_isa.proofs.Types.{Cond, ArithOp, Width, W32, W64, Form, OpMap, RmRule, Size, ImmKind, Op, Row, Insn, Mem, Place, Fields}
 use Rattle.rz_flags.specs.Cond.{number_of}
 use Rattle.rz_flags.specs.declared.ArithOp.TheVariants as ariths
 use Rattle.rz_flags.specs.declared.ShiftOp.TheVariants as shifts
@@ -25,7 +24,7 @@ use Rattle.rz_isa.specs.declared.instruction.Count.TheVariants as counts
 use Rattle.rz_isa.specs.Spelling.{bytes_of, rex_bytes, escape, imm_len}
 use Rattle.rz_isa.specs.Having.{code_of, has_width, has_imm, is_half, is_memory, rex_needed, needs_rex, can_have}
 use Rattle.rz_isa.specs.Finding.{least, same_arith, found_in, if_can, found}
-use Rattle.rz_isa.specs.Canonical.{repeat_prefix, prefixes_for, rex_for, place_bytes, memory_bytes, rm_bytes, imm_value, parts_for, place_reaches, reaches, length_for, same_form, Chosen, or_chosen, chosen_by, spelled_at, canonical}
+use Rattle.rz_isa.specs.Canonical.{repeat_prefix, prefixes_for, rex_for, place_bytes, rm_bytes, imm_value, parts_for, place_reaches, reaches, length_for, same_form, Chosen, or_chosen, chosen_by, spelled_at, canonical}
 use Rattle.rz_isa.specs.Emitted.{HasSpelling, HasShortSpelling, place_len, near, close, fits_8, fits_32, register, is_wide_operand, is_emitted, is_double}
 use Rattle.rz_isa.proofs.Again.{Had, had_of, can_of}
 use Rattle.rz_isa.proofs.Choice.{serves_by, length_is}

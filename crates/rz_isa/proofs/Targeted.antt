@@ -4,15 +4,13 @@ use Rattle.std.specs.List.{list_all}
 use Rattle.std.proofs.lemmas.Bool.Decides.{nat_tests}
 use Rattle.rz_isa.proofs.Types.{Width, W64, Size, RmRule, Row, Letter, Op, Insn, Reg, Place, Operand, Fields}
 use Rattle.rz_flags.specs.Cond.{cond_of}
-use Rattle.rz_isa.specs.declared.rows.Size.TheVariants as sizes
-use Rattle.rz_isa.specs.declared.rows.RmRule.TheVariants as rules
 use Rattle.rz_isa.specs.declared.rows.Letter.TheVariants as letters
 use Rattle.rz_isa.specs.declared.rows.Op.TheVariants as ops
 use Rattle.rz_isa.specs.declared.instruction.Insn.TheVariants as insns
 use Rattle.rz_isa.specs.declared.instruction.Place.TheVariants as places
 use Rattle.rz_isa.specs.Fields.{place_at, operand_at, reg_at, number_of, number_at, count_at, index_at, letter_width, rm_width, build_op}
 use Rattle.rz_isa.specs.Insn.{target_of, rip_of, rip_of_operand, first_some, rip_target_of}
-use Rattle.rz_isa.specs.Having.{has_width, is_register, is_first, has_reg, in_reg_field, in_opcode, names_register, names_memory, is_first_place, has_place}
+use Rattle.rz_isa.specs.Having.{has_width, is_register, is_first, has_reg, has_place}
 use Rattle.rz_isa.specs.Finding.{same_truth}
 use Rattle.rz_isa.specs.Regular.{is_regular}
 use Rattle.rz_isa.specs.Suited.{letter_suits, letters_of, has_condition, has_target, has_repeat, is_displacement, is_repeats, prefixes_suit, is_indirect, is_wide_class, form_suits, is_suited}
@@ -25,7 +23,7 @@ use Rattle.rz_isa.proofs.Complete.{fields_had}
 use Rattle.rz_isa.proofs.Equal.{same_truth-is}
 use Rattle.rz_isa.proofs.Exclusion.{list_all_get}
 use Rattle.rz_isa.proofs.Whole.{spelled_bytes}
-use Rattle.rz_isa.proofs.Tests.{or_left, or_right}
+use Rattle.rz_isa.proofs.Tests.{or_left}
 
 -- What an instruction names by its address.
 
