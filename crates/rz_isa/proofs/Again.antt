@@ -103,9 +103,6 @@ cond_low span n h = grind (arith, nat_tests)
 pub cond_found : (span n : ℕ) → has_cond span n ≡ true → number_of_cond (cond_of (n % 16)) ≡ n
 cond_found span n h = cond_back n (cond_low span n h)
 
-rep_or : (n : ℕ) → (n == 0 || n == 0xf3) ≡ true → rep_byte (is_rep n) ≡ n
-rep_or n h = grind (arith, nat_tests)
-
 pub rep_found : (r : F3Rule) (n : ℕ) → has_rep r n ≡ true → rep_byte (is_rep n) ≡ n
 rep_found r n h1 = grind (arith, nat_tests)
 

@@ -38,9 +38,6 @@ with_reg-step l r f g h1 = grind (arith, nat_tests)
 pub with_number-step : (l : Letter) (n : ℕ) (f g : Fields) → with_number l n f ≡ Some g → (number_at l g ≡ n) × Kept (reg_slot l) f g
 with_number-step l n f g e = let t = with_reg-step l (regs.R n) f g e in (ap number_of t.0, t.1)
 
-cut : (n k : ℕ) → k ≡ n → k < 2 ^ 8 → k % 2 ^ 8 ≡ n
-cut n k e lt = omega arith
-
 pub with_count-step : (l : Letter) (c : Count) (f g : Fields) → g.imm < 2 ^ 8 → with_count l c f ≡ Some g → (count_at l g ≡ c) × Kept (count_slot l) f g
 with_count-step l c f g h1 h2 = grind (arith, nat_tests)
 

@@ -2,7 +2,7 @@ use Rattle.std.proofs.Common.{ℕ, zero, suc, ◌≡◌, ◌+◌, ◌*◌, ◌/�
 use Rattle.std.specs.Prelude.{nat_lt, is_some, if◌then◌else◌}
 use Rattle.std.proofs.lemmas.Bool.{cases_Bool}
 use Rattle.std.proofs.lemmas.Bool.Decides.{nat_tests}
-use Rattle.rz_isa.proofs.Types.{Width, W8, W16, W32, W64, OpMap, F3Rule, Size, RmRule, ImmKind, Row, Op, Place}
+use Rattle.rz_isa.proofs.Types.{Width, W8, W16, W32, W64, F3Rule, Size, RmRule, ImmKind, Row}
 use Rattle.rz_isa.specs.declared.rows.RmRule.TheVariants as rules
 use Rattle.rz_isa.specs.declared.rows.ImmKind.TheVariants as imms
 use Rattle.rz_isa.specs.declared.instruction.Reg.TheVariants as regs
@@ -10,14 +10,13 @@ use Rattle.rz_isa.specs.declared.instruction.Place.TheVariants as places
 use Rattle.rz_num.specs.Bytes.{are_bytes}
 use Rattle.rz_isa.specs.Number.{number, numbers, extended, displaced_by}
 use Rattle.rz_isa.specs.Spelling.{Parts, Fits, bit_w, bit_r, bit_x, bit_b, is_met, w_demand, b_demand, disp_len, rm_len, second, rm_fits, width_of, width_at, imm_len, times}
-use Rattle.rz_isa.specs.Fields.{reg_of, index_of, base_of, sib_mem, base_mem, behind_one, place_of, rm_place, rm_width, reg_field, reg_number, imm_of, repeat_in, rep_of, fields}
+use Rattle.rz_isa.specs.Fields.{reg_of, index_of, base_of, sib_mem, base_mem, behind_one, place_of, rm_place, rm_width, reg_number, imm_of, repeat_in, rep_of, fields}
 use Rattle.rz_isa.specs.Having.{has_width, code_of, is_register, is_first, is_high, is_low_byte, in_reg_field, in_opcode, is_number, is_index, is_memory, names_register, names_memory, has_place, has_cond, has_imm, is_repeat, has_rep, w_needed, x_needed, place_b, b_needed, rex_needed, low_byte_place, high_place, needs_rex, bars_rex, opcode_of, can_have}
-use Rattle.rz_isa.specs.Regular.{is_regular, is_block, is_exchange}
+use Rattle.rz_isa.specs.Regular.{is_regular, is_block}
 use Rattle.rz_isa.proofs.Numbers.{number_less, numbers_of, numbers_full, signed_is_disp, extended_byte, extended_four}
 use Rattle.rz_isa.proofs.Again.{can_of}
 use Rattle.rz_isa.proofs.Inverse.{IsRegular, regular_of}
 use Rattle.rz_isa.proofs.Tests.{if_true, if_false, if_both, and_three, all_three, equal_is, or_left, or_right, below_test}
-use Rattle.rz_isa.proofs.Lesser.{first_low}
 
 -- The fields of a spelling are fields that its row can have.
 
@@ -34,15 +33,9 @@ code_again w rex n = grind (arith, nat_tests)
 pub registered : (w : Width) (rex : Option ℕ) (n : ℕ) → n < 16 → (rex ≡ None → n < 8) → is_register w (reg_of w rex n) ≡ true
 registered w rex n h1 h2 = grind (arith, nat_tests)
 
-first_again : (w : Width) (rex : Option ℕ) → is_first (reg_of w rex 0) ≡ true
-first_again w rex = grind (arith, nat_tests)
-
 -- three bits and a bit of REX
 pub with_bit : (low bit : ℕ) → low < 8 → bit < 2 → low + 8 * bit < 16
 with_bit low bit a b = omega arith
-
-pub r_bit : (rex : Option ℕ) → bit_r rex < 2
-r_bit rex = omega arith
 
 pub x_bit : (rex : Option ℕ) → bit_x rex < 2
 x_bit rex = omega arith
@@ -50,26 +43,11 @@ x_bit rex = omega arith
 pub b_bit : (rex : Option ℕ) → bit_b rex < 2
 b_bit rex = omega arith
 
-no_r : (rex : Option ℕ) (low : ℕ) → low < 8 → rex ≡ None → low + 8 * bit_r rex < 8
-no_r rex low h1 h2 = grind (arith, nat_tests)
-
-no_x : (rex : Option ℕ) (low : ℕ) → low < 8 → rex ≡ None → low + 8 * bit_x rex < 8
-no_x rex low h1 h2 = grind (arith, nat_tests)
-
 no_b : (rex : Option ℕ) (low : ℕ) → low < 8 → rex ≡ None → low + 8 * bit_b rex < 8
 no_b rex low h1 h2 = grind (arith, nat_tests)
 
-pub field_low : (rm : List ℕ) → reg_field rm < 8
-field_low rm = grind (arith, nat_tests)
-
-reg_registered : (w : Width) (p : Parts) → is_register w (reg_of w p.rex (reg_field p.rm + 8 * bit_r p.rex)) ≡ true
-reg_registered w p = registered w p.rex (reg_field p.rm + 8 * bit_r p.rex) (with_bit (reg_field p.rm) (bit_r p.rex) (field_low p.rm) (r_bit p.rex)) (no_r p.rex (reg_field p.rm) (field_low p.rm))
-
 eighth_low : (n : ℕ) → n % 8 < 8
 eighth_low n = omega arith
-
-opcode_registered : (w : Width) (p : Parts) → is_register w (reg_of w p.rex (p.opcode % 8 + 8 * bit_b p.rex)) ≡ true
-opcode_registered w p = registered w p.rex (p.opcode % 8 + 8 * bit_b p.rex) (with_bit (p.opcode % 8) (bit_b p.rex) (eighth_low p.opcode) (b_bit p.rex)) (no_b p.rex (p.opcode % 8) (eighth_low p.opcode))
 
 pub reg_of_parts : (rm : Option RmRule) (digit : Option ℕ) (span : ℕ) (w : Width) (p : Parts)
     → (if in_reg_field rm digit || in_opcode rm span then is_register w (reg_of w p.rex (reg_number rm digit span p)) else is_first (reg_of w p.rex (reg_number rm digit span p))) ≡ true
@@ -192,22 +170,11 @@ rep_of_prefixes r b h1 = grind (arith, nat_tests)
 not_high : (w : Width) (r n : ℕ) → is_high (reg_of w (Some r) n) ≡ false
 not_high w r n = grind (arith, nat_tests)
 
--- what holds of a register, of memory and of an address holds of the place that the bytes name
-place_cases : (P : Place → Type 0) (v : Width) (rex : Option ℕ) (next : ℕ) (bs : List ℕ) → P (places.Reg (regs.R 0)) → ((low : ℕ) → low < 8 → P (places.Reg (reg_of v rex (low + 8 * bit_b rex))))
-    → ((mode sib : ℕ) (disp : List ℕ) → P (places.Mem (sib_mem mode sib rex disp))) → ((low : ℕ) (disp : List ℕ) → low < 8 → P (places.Mem (base_mem low rex disp))) → ((a : ℕ) → P (places.At a)) → P (place_of v rex next bs)
-place_cases P v rex next bs h1 h2 h3 h4 h5 = grind (arith, nat_tests)
-
-place_not_high : (v : Width) (r next : ℕ) (bs : List ℕ) → high_place (place_of v (Some r) next bs) ≡ false
-place_not_high v r next bs = place_cases (λ p. high_place p ≡ false) v (Some r) next bs refl (λ low _. not_high v r (low + 8 * bit_b (Some r))) (λ mode sib disp. refl) (λ low disp _. refl) (λ a. refl)
-
 rm_not_high : (rm : Option RmRule) (v : Width) (r next : ℕ) (bs : List ℕ) → high_place (rm_place rm v (Some r) next bs) ≡ false
 rm_not_high rm v r next bs = grind (arith, nat_tests)
 
 not_low : (w : Width) (n : ℕ) → is_low_byte w (reg_of w None n) ≡ false
 not_low w n = grind (arith, nat_tests)
-
-place_not_low : (v : Width) (next : ℕ) (bs : List ℕ) → low_byte_place v (place_of v None next bs) ≡ false
-place_not_low v next bs = place_cases (λ p. low_byte_place v p ≡ false) v None next bs (first_low v) (λ low _. not_low v (low + 8 * bit_b None)) (λ mode sib disp. refl) (λ low disp _. refl) (λ a. refl)
 
 rm_not_low : (rm : Option RmRule) (v : Width) (next : ℕ) (bs : List ℕ) → low_byte_place v (rm_place rm v None next bs) ≡ false
 rm_not_low rm v next bs = grind (arith, nat_tests)
@@ -216,9 +183,6 @@ rm_not_low rm v next bs = grind (arith, nat_tests)
 
 w_of_size : (c : Size) (b n : ℕ) → b < 2 → is_met (w_demand c) b ≡ true → w_needed c (width_of c b n) ≤ b
 w_of_size c b n h1 h2 = grind (arith, nat_tests)
-
-place_x : (v : Width) (rex : Option ℕ) (next : ℕ) (bs : List ℕ) → x_needed (place_of v rex next bs) ≤ bit_x rex
-place_x v rex next bs = grind (arith, nat_tests)
 
 rm_x : (rm : Option RmRule) (v : Width) (rex : Option ℕ) (next : ℕ) (bs : List ℕ) → x_needed (rm_place rm v rex next bs) ≤ bit_x rex
 rm_x rm v rex next bs = grind (arith, nat_tests)
@@ -244,9 +208,6 @@ opcode_b None digit span w v p next = elim (cases_Bool (span == 8)) [
 opcode_b (Some r) digit span w v p next = rm_b (Some r) v p.rex next p.rm
 
 -- ---- both joined tests
-
-abbrev pub rm_of : Row → Parts → ℕ → Place
-rm_of row p next = rm_place row.rm (rm_width row.op (width_at row p)) p.rex next p.rm
 
 pub w_bit : (rex : Option ℕ) → bit_w rex < 2
 w_bit rex = grind (arith, nat_tests)
@@ -307,26 +268,8 @@ rex_joined row p next fit = by_rex p.rex refl
 
 -- ---- REX.B where the row demands it
 
-zero_met : (op : Op) (m : OpMap) (o n : ℕ) → n ≡ 0 → is_exchange op ≡ false → is_met (b_demand op m o) n ≡ true
-zero_met op m o n h1 h2 = grind (arith, nat_tests)
-
-undemanding : (op : Op) (m : OpMap) (o n : ℕ) → is_some (b_demand op m 0x90) ≡ false → is_met (b_demand op m o) n ≡ true
-undemanding op m o n h1 = grind (arith, nat_tests)
-
-no_rm : (d : Bool) (r : Option RmRule) → d ≡ true → not (d && is_some r) ≡ true → r ≡ None
-no_rm d r h1 h2 = grind (arith, nat_tests)
-
-no_bytes : (digit : Option ℕ) (bs : List ℕ) → rm_fits None digit bs ≡ true → bs ≡ []
-no_bytes digit bs h1 = grind (arith, nat_tests)
-
 pub eight_aligned : (r : Row) → is_block r ≡ true → (r.span == 8) ≡ true → r.opcode % 8 ≡ 0
 eight_aligned r b s = grind (arith, nat_tests)
-
-pub exchange_eight : (x b : Bool) → (not x || b) ≡ true → b ≡ false → x ≡ false
-exchange_eight x b h e = grind arith
-
-opcode_again : (base o b : ℕ) → base % 8 ≡ 0 → base ≤ o → o < base + 8 → b < 2 → (base + (o % 8 + 8 * b) % 8 ≡ o) × ((o % 8 + 8 * b) / 8 ≡ b)
-opcode_again base o b z le lt small = (omega arith, omega arith)
 
 pub demand_met : (row : Row) (p : Parts) (next : ℕ) → IsRegular row → Fits row p
     → is_met (b_demand row.op row.map (opcode_of row (fields row p next))) (b_needed row (fields row p next)) ≡ true

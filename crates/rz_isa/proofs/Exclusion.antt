@@ -28,9 +28,6 @@ rm_len_cases m s t = grind (arith, nat_tests)
 pub rm_fits_len : (rule : RmRule) (digit : Option ℕ) (m : ℕ) (a : List ℕ) → rm_fits (Some rule) digit (m ∷ a) ≡ true → 1 + length a ≡ rm_len m (second (m ∷ a))
 rm_fits_len rule digit m a fit = grind (arith, nat_tests)
 
-pub second_same : (m : ℕ) (a b x y : List ℕ) → 1 ≤ length a → 1 ≤ length b → a ++ x ≡ b ++ y → second (m ∷ a) ≡ second (m ∷ b)
-second_same m a b x y h1 h2 h3 = grind (arith, nat_tests)
-
 pub rm_tail_len : (m : ℕ) (a b x y : List ℕ) → 1 + length a ≡ rm_len m (second (m ∷ a)) → 1 + length b ≡ rm_len m (second (m ∷ b)) → a ++ x ≡ b ++ y → length a ≡ length b
 rm_tail_len m a b x y h1 h2 h3 = grind (arith, nat_tests)
 

@@ -1,4 +1,4 @@
-use Rattle.std.proofs.Common.{ℕ, ◌≡◌, ◌≤◌, List, [], ◌∷◌, ◌++◌, Option, Some, refl, arith, Bool, true, false, not, append_assoc}
+use Rattle.std.proofs.Common.{ℕ, ◌≡◌, ◌≤◌, List, [], ◌∷◌, ◌++◌, Option, Some, refl, arith, Bool, true, not, append_assoc}
 use Rattle.std.specs.Prelude.{nat_le}
 use Rattle.std.specs.List.{take_while, list_all}
 use Rattle.std.proofs.lemmas.Bool.Decides.{nat_tests}
@@ -43,9 +43,6 @@ pub stops_at_rex : (rex : Option ℕ) (m : OpMap) (b : ℕ) (rest : List ℕ) �
 stops_at_rex rex m b rest h1 h2 = grind (arith, nat_tests)
 
 -- ---- what a row allows as a prefix is one
-
-pub most_of_other : (row : Row) (b : ℕ) → is_prefix b ≡ false → most row b ≡ 0
-most_of_other row b other = grind (arith, nat_tests)
 
 pub times_cons : (b : ℕ) (ps : List ℕ) → 1 ≤ times b (b ∷ ps)
 times_cons b ps = grind (arith, nat_tests, common_steps)

@@ -1,12 +1,12 @@
 use Rattle.std.proofs.Common.{ℕ, ◌≡◌, ◌+◌, ◌*◌, ◌/◌, ◌≤◌, ◌==◌, refl, ap, sym, ◌∙◌, subst, arith, Bool, true, false, not, ◌&&◌, ◌||◌, ◌⊎◌, inl, inr, Option}
 use Rattle.std.specs.Prelude.{nat_lt, if◌then◌else◌}
 use Rattle.std.proofs.lemmas.Bool.Decides.{nat_tests}
-use Rattle.rz_isa.proofs.Types.{Width, F3Rule, Size, RmRule, ImmKind, Row, Reg, Fields}
+use Rattle.rz_isa.proofs.Types.{Width, F3Rule, RmRule, ImmKind, Row, Fields}
 use Rattle.rz_isa.specs.declared.instruction.Reg.TheVariants as regs
 use Rattle.rz_isa.specs.Spelling.{is_met, b_demand}
-use Rattle.rz_isa.specs.Fields.{rm_width, number_of}
-use Rattle.rz_isa.specs.Having.{is_byte, has_width, is_register, is_first, is_high, is_low_byte, in_reg_field, in_opcode, has_reg, has_place, has_cond, has_imm, has_rep, code_of, w_needed, x_needed, place_b, b_needed, rex_needed, low_byte_place, high_place, bars_rex, needs_rex, opcode_of}
-use Rattle.rz_isa.specs.Finding.{least_width, least_place, least}
+use Rattle.rz_isa.specs.Fields.{rm_width}
+use Rattle.rz_isa.specs.Having.{has_width, is_register, is_first, is_high, is_low_byte, in_reg_field, in_opcode, has_reg, has_place, has_cond, has_imm, has_rep, code_of, w_needed, x_needed, place_b, b_needed, rex_needed, low_byte_place, high_place, bars_rex, needs_rex, opcode_of}
+use Rattle.rz_isa.specs.Finding.{least_place, least}
 use Rattle.rz_isa.specs.Regular.{is_byte_class}
 use Rattle.rz_isa.proofs.Again.{Below, Numbered, Had, least_place_b}
 use Rattle.rz_isa.proofs.Tests.{never, if_both}
@@ -15,19 +15,10 @@ use Rattle.rz_isa.proofs.Tests.{never, if_both}
 
 -- ---- a register of more than 8 bits is named by its number
 
-byte_class : (c : Size) (w : Width) → has_width c w ≡ true → is_byte_class c ≡ false → is_byte w ≡ false
-byte_class c w h1 h2 = grind (arith, nat_tests)
-
-plain_register : (w : Width) (r : Reg) → is_byte w ≡ false → is_register w r ≡ true → regs.R (number_of r) ≡ r
-plain_register w r h1 h2 = grind (arith, nat_tests)
-
 pub numbered : (row : Row) (f : Fields) → Had row f → is_byte_class row.size ≡ false → Numbered f
 numbered row f h1 h2 = grind (arith, nat_tests)
 
 -- ---- the least value of each field
-
-least_width-had : (c : Size) → has_width c (least_width c) ≡ true
-least_width-had c = grind (arith, nat_tests)
 
 first-had : (row : Row) (w : Width) → has_reg row w (regs.R 0) ≡ true
 first-had row w = if_both (λ k. k ≡ true) (in_reg_field row.rm row.digit || in_opcode row.rm row.span) (is_register w (regs.R 0)) (is_first (regs.R 0)) (λ _. refl) (λ _. refl)
@@ -55,9 +46,6 @@ least_low r w = grind (arith, nat_tests)
 
 least_high : (r : Option RmRule) → high_place (least_place r) ≡ false
 least_high r = grind (arith, nat_tests)
-
-not_left : (a b : Bool) → a ≡ false → not (a && b) ≡ true
-not_left a b e = grind arith
 
 least-had : (row : Row) → is_met (b_demand row.op row.map (opcode_of row (least row))) (b_needed row (least row)) ≡ true → Had row (least row)
 least-had row h1 = grind (arith, nat_tests)

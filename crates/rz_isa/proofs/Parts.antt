@@ -9,7 +9,7 @@ use Rattle.rz_isa.specs.declared.instruction.Place.TheVariants as places
 use Rattle.rz_num.specs.Bytes.{are_bytes}
 use Rattle.rz_isa.specs.Spelling.{times, most_66, takes_66, prefixes_fit, f3_demand, is_rex, rex_fits, bit_w, bit_r, bit_x, bit_b, is_met, w_demand, rm_fits, rule_fits, width_of}
 use Rattle.rz_isa.specs.Fields.{reg_of, place_of, rm_place, rm_width, reg_field, reg_number, repeat_in, rep_of}
-use Rattle.rz_isa.specs.Having.{is_half, has_width, code_of, is_register, is_first, is_high, is_low_byte, in_reg_field, in_opcode, has_reg, is_number, is_index, is_disp, names_register, names_memory, is_first_place, has_place, is_repeat, has_rep, number_in, w_needed, r_needed, x_needed, place_b, b_needed, rex_needed, low_byte_place, high_place, needs_rex}
+use Rattle.rz_isa.specs.Having.{is_half, has_width, code_of, is_register, is_first, is_high, is_low_byte, in_reg_field, in_opcode, has_reg, is_number, is_index, is_disp, names_register, names_memory, is_first_place, has_place, is_repeat, has_rep, w_needed, r_needed, x_needed, place_b, b_needed, rex_needed, low_byte_place, high_place, needs_rex}
 use Rattle.rz_isa.specs.Canonical.{repeat_prefix, prefixes_for, rex_for, place_bytes, reg_bits, rm_bytes, place_reaches}
 use Rattle.rz_isa.specs.Regular.{digit_small, rule_small}
 use Rattle.rz_isa.proofs.Built.{first_is}
@@ -26,16 +26,6 @@ half_takes c w h1 h2 = grind (arith, nat_tests)
 
 most_when : (row : Row) → takes_66 row.size ≡ true → nat_le 1 (most_66 row) ≡ true
 most_when row t = grind (arith, nat_tests)
-
-zero_repeat : (b : ℕ) → (b == 0) ≡ true → 0 ≡ b
-zero_repeat b e = grind (arith, nat_tests)
-
-other_repeat : (b : ℕ) → is_repeat b ≡ true → (b == 0) ≡ false → 0xf3 ≡ b
-other_repeat b h e = grind (arith, nat_tests)
-
--- what holds where none stands and of F3 holds of the byte of a repeat prefix
-pub repeat_both : (P : ℕ → Type 0) (b : ℕ) → is_repeat b ≡ true → P 0 → P 0xf3 → P b
-repeat_both P b h none some = elim (cases_Bool (b == 0)) [ inl y ↦ subst P (zero_repeat b y) none | inr n ↦ subst P (other_repeat b h n) some ]
 
 pub repeat_prefix-is : (r : F3Rule) (n : ℕ) → has_rep r n ≡ true → is_repeat (repeat_prefix r n) ≡ true
 repeat_prefix-is r n h1 = grind (arith, nat_tests)
@@ -63,37 +53,13 @@ rep_again r n h1 = grind (arith, nat_tests)
 w_small : (c : Size) (w : Width) → w_needed c w ≤ 1
 w_small c w = grind (arith, nat_tests)
 
-register_code : (w : Width) (r : Reg) → is_register w r ≡ true → code_of r < 16
-register_code w r h1 = grind (arith, nat_tests)
-
-first_code : (r : Reg) → is_first r ≡ true → code_of r < 16
-first_code r h1 = grind (arith, nat_tests)
-
 reg_code : (row : Row) (w : Width) (r : Reg) → has_reg row w r ≡ true → code_of r < 16
 reg_code row w r h1 = grind (arith, nat_tests)
-
-number_small : (o : Option ℕ) → is_number o ≡ true → number_in o / 8 ≤ 1
-number_small o h1 = grind (arith, nat_tests)
-
-index_small : (o : Option ℕ) (s : ℕ) → is_index o s ≡ true → number_in o / 8 ≤ 1
-index_small o s h1 = grind (arith, nat_tests)
 
 -- the bits of a place that some rule takes
 pub record PlaceBits (p : Place) : Type 0 where
   pub x : x_needed p ≤ 1
   pub b : place_b p ≤ 1
-
-register_bits : (w : Width) (p : Place) → names_register w p ≡ true → PlaceBits p
-register_bits w p h1 = grind (arith, nat_tests)
-
-memory_bits : (p : Place) → names_memory p ≡ true → PlaceBits p
-memory_bits p h1 = grind (arith, nat_tests)
-
-first_bits : (p : Place) → is_first_place p ≡ true → PlaceBits p
-first_bits p h1 = grind (arith, nat_tests)
-
-either_bits : (w : Width) (p : Place) → (names_register w p || names_memory p) ≡ true → PlaceBits p
-either_bits w p h = elim (cases_Bool (names_register w p)) [ inl y ↦ register_bits w p y | inr n ↦ memory_bits p (grind arith) ]
 
 place_bits : (r : Option RmRule) (w : Width) (p : Place) → has_place r w p ≡ true → PlaceBits p
 place_bits r w p h1 = grind (arith, nat_tests)

@@ -1,10 +1,10 @@
-use Rattle.std.proofs.Common.{ℕ, zero, suc, ℤ, pos, negsuc, ◌≡◌, ◌≢◌, ◌+◌, ◌-◌, ◌*◌, ◌/◌, ◌%◌, ◌^◌, ◌<◌, ◌-ℤ◌, refl, ap, ◌∙◌, arith, List, length, Bool, true, false, ◌&&◌}
+use Rattle.std.proofs.Common.{ℕ, zero, suc, ℤ, pos, negsuc, ◌≡◌, ◌≢◌, ◌+◌, ◌-◌, ◌*◌, ◌/◌, ◌%◌, ◌^◌, ◌<◌, ◌-ℤ◌, refl, ap, ◌∙◌, arith, List, length, true, false, ◌&&◌}
 use Rattle.std.specs.Prelude.{nat_lt, if◌then◌else◌}
 use Rattle.std.proofs.lemmas.Bool.Decides.{nat_tests}
 use Rattle.rz_num.specs.Bytes.{are_bytes}
 use Rattle.rz_isa.specs.Number.{number, numbers, signed, extended, displaced_by}
 use Rattle.rz_isa.specs.Having.{is_disp, is_extended}
-use Rattle.rz_isa.specs.Canonical.{little, low_32, offset, is_zero, is_small, mode_of, disp_bytes}
+use Rattle.rz_isa.specs.Canonical.{little, low_32, offset, mode_of, disp_bytes}
 use Rattle.rz_isa.proofs.Numbers.{minus_is}
 use Rattle.rz_isa.proofs.Tests.{if_both}
 
@@ -18,17 +18,8 @@ pub little_length : (k v : ℕ) → length (little k v) ≡ k
 little_length zero v = refl
 little_length (suc k) v = (let b = little_length k (v / 256) in omega arith)
 
-pub number_1 : (v : ℕ) → number (little 1 v) ≡ v % 2 ^ 8
-number_1 v = omega arith
-
-pub number_2 : (v : ℕ) → number (little 2 v) ≡ v % 2 ^ 16
-number_2 v = omega arith
-
 pub number_4 : (v : ℕ) → number (little 4 v) ≡ v % 2 ^ 32
 number_4 v = omega arith
-
-pub number_8 : (v : ℕ) → number (little 8 v) ≡ v % 2 ^ 64
-number_8 v = omega arith
 
 -- ---- signed numbers
 
@@ -38,15 +29,6 @@ signed_when n m z lt f g = if_both (λ k. k ≡ z) (nat_lt (2 * n) m) (pos n) (p
 signed_of : (bs : List ℕ) (n m : ℕ) (z : ℤ) → number bs ≡ n → numbers bs ≡ m → (if nat_lt (2 * n) m then pos n else pos n -ℤ pos m) ≡ z → signed bs ≡ z
 signed_of bs n m z en em h = ap (λ k. if nat_lt (2 * k) (numbers bs) then pos k else pos k -ℤ pos (numbers bs)) en ∙ (ap (λ k. if nat_lt (2 * n) k then pos n else pos n -ℤ pos k) em ∙ h)
 
-pub signed_1 : (z : ℤ) → is_small z ≡ true → signed (little 1 (low_32 z)) ≡ z
-signed_1 (pos k) s =
-    let lt : k < 128 = grind (arith, nat_tests) in
-    signed_of (little 1 k) k 256 (pos k) (number_1 k ∙ omega arith) refl (signed_when k 256 (pos k) (omega arith) (λ _. refl) (λ e. absurd (grind (arith, nat_tests))))
-signed_1 (negsuc k) s =
-    let lt : k < 128 = grind (arith, nat_tests) in
-    let n : number (little 1 (2 ^ 32 - 1 - k)) ≡ 255 - k = omega (arith, number_1 (2 ^ 32 - 1 - k)) in
-    signed_of (little 1 (2 ^ 32 - 1 - k)) (255 - k) 256 (negsuc k) n refl (signed_when (255 - k) 256 (negsuc k) (omega arith) (λ e. absurd (grind (arith, nat_tests))) (λ _. ap negsuc (omega arith)))
-
 pub signed_4 : (z : ℤ) → is_disp z ≡ true → signed (little 4 (low_32 z)) ≡ z
 signed_4 (pos k) s =
     let lt : k < 2 ^ 31 = grind (arith, nat_tests) in
@@ -55,12 +37,6 @@ signed_4 (negsuc k) s =
     let lt : k < 2 ^ 31 = grind (arith, nat_tests) in
     let n : number (little 4 (2 ^ 32 - 1 - k)) ≡ 2 ^ 32 - 1 - k = omega (arith, number_4 (2 ^ 32 - 1 - k)) in
     signed_of (little 4 (2 ^ 32 - 1 - k)) (2 ^ 32 - 1 - k) (2 ^ 32) (negsuc k) n refl (signed_when (2 ^ 32 - 1 - k) (2 ^ 32) (negsuc k) (omega arith) (λ e. absurd (grind (arith, nat_tests))) (λ _. ap negsuc (omega arith)))
-
-zero_is : (z : ℤ) → is_zero z ≡ true → pos 0 ≡ z
-zero_is z h1 = grind (arith, nat_tests)
-
-and_left : (a b : Bool) → (a && b) ≡ true → a ≡ true
-and_left a b h = grind arith
 
 pub disp_again : (low : ℕ) (z : ℤ) → is_disp z ≡ true → signed (disp_bytes (mode_of low z) z) ≡ z
 disp_again low z h1 = grind (arith, nat_tests)
@@ -77,17 +53,11 @@ extended_when : (bs : List ℕ) (n m d : ℕ) → number bs ≡ n → numbers bs
 extended_when bs n m d en em f g =
     ap (λ k. if nat_lt (2 * k) (numbers bs) then k else k + (2 ^ 64 - numbers bs)) en ∙ (ap (λ k. if nat_lt (2 * n) k then n else n + (2 ^ 64 - k)) em ∙ if_both (λ k. k ≡ d) (nat_lt (2 * n) m) n (n + (2 ^ 64 - m)) f g)
 
-pub extended_1 : (d : ℕ) → is_extended (2 ^ 7) (2 ^ 64) d ≡ true → extended (little 1 d) ≡ d
-extended_1 d h = extended_when (little 1 d) (d % 2 ^ 8) (2 ^ 8) d (number_1 d) refl (λ e. grind (arith, nat_tests)) (λ e. grind (arith, nat_tests))
-
 pub extended_4 : (d : ℕ) → is_extended (2 ^ 31) (2 ^ 64) d ≡ true → extended (little 4 d) ≡ d
 extended_4 d h = extended_when (little 4 d) (d % 2 ^ 32) (2 ^ 32) d (number_4 d) refl (λ e. grind (arith, nat_tests)) (λ e. grind (arith, nat_tests))
 
 pub offset_again : (next target : ℕ) → next < 2 ^ 64 → target < 2 ^ 64 → (next + offset next target) % 2 ^ 64 ≡ target
 offset_again next target ln lt = omega arith
-
-pub displaced_1 : (next target : ℕ) → next < 2 ^ 64 → target < 2 ^ 64 → is_extended (2 ^ 7) (2 ^ 64) (offset next target) ≡ true → displaced_by next (little 1 (offset next target)) ≡ target
-displaced_1 next target ln lt h = ap (λ k. (next + k) % 2 ^ 64) (extended_1 (offset next target) h) ∙ offset_again next target ln lt
 
 pub displaced_4 : (next target : ℕ) → next < 2 ^ 64 → target < 2 ^ 64 → is_extended (2 ^ 31) (2 ^ 64) (offset next target) ≡ true → displaced_by next (little 4 (offset next target)) ≡ target
 displaced_4 next target ln lt h = ap (λ k. (next + k) % 2 ^ 64) (extended_4 (offset next target) h) ∙ offset_again next target ln lt

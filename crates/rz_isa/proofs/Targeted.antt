@@ -1,8 +1,8 @@
-use Rattle.std.proofs.Common.{ℕ, ◌≡◌, ◌%◌, ◌==◌, refl, ap, sym, ◌∙◌, subst, arith, List, Bool, true, false, not, ◌&&◌, ◌||◌, ◌⊎◌, inl, inr, Option, Some, None}
+use Rattle.std.proofs.Common.{ℕ, ◌≡◌, ◌%◌, ◌==◌, refl, ap, sym, ◌∙◌, subst, arith, List, Bool, true, not, ◌&&◌, ◌||◌, ◌⊎◌, inl, inr, Option, Some, None}
 use Rattle.std.specs.Prelude.{if◌then◌else◌}
 use Rattle.std.specs.List.{list_all}
 use Rattle.std.proofs.lemmas.Bool.Decides.{nat_tests}
-use Rattle.rz_isa.proofs.Types.{Width, W64, Size, RmRule, Row, Letter, Op, Insn, Reg, Place, Operand, Fields}
+use Rattle.rz_isa.proofs.Types.{Width, W64, Size, Row, Letter, Op, Insn, Place, Operand, Fields}
 use Rattle.rz_flags.specs.Cond.{cond_of}
 use Rattle.rz_isa.specs.declared.rows.Letter.TheVariants as letters
 use Rattle.rz_isa.specs.declared.rows.Op.TheVariants as ops
@@ -10,7 +10,7 @@ use Rattle.rz_isa.specs.declared.instruction.Insn.TheVariants as insns
 use Rattle.rz_isa.specs.declared.instruction.Place.TheVariants as places
 use Rattle.rz_isa.specs.Fields.{place_at, operand_at, reg_at, number_of, number_at, count_at, index_at, letter_width, rm_width, build_op}
 use Rattle.rz_isa.specs.Insn.{target_of, rip_of, rip_of_operand, first_some, rip_target_of}
-use Rattle.rz_isa.specs.Having.{has_width, is_register, is_first, has_reg, has_place}
+use Rattle.rz_isa.specs.Having.{has_width, has_reg, has_place}
 use Rattle.rz_isa.specs.Finding.{same_truth}
 use Rattle.rz_isa.specs.Regular.{is_regular}
 use Rattle.rz_isa.specs.Suited.{letter_suits, letters_of, has_condition, has_target, has_repeat, is_displacement, is_repeats, prefixes_suit, is_indirect, is_wide_class, form_suits, is_suited}
@@ -18,12 +18,10 @@ use Rattle.rz_isa.specs.Spells.{next_address}
 use Rattle.rz_isa.specs.Emitted.{is_wide_operand, indirect_operand}
 use Rattle.rz_isa.specs.Targets.{IgnoresPlace, RipTargets, DirectTargets, IndirectOperands}
 use Rattle.rz_isa.proofs.Again.{Had, had_of}
-use Rattle.rz_isa.proofs.Built.{first_is}
 use Rattle.rz_isa.proofs.Complete.{fields_had}
 use Rattle.rz_isa.proofs.Equal.{same_truth-is}
 use Rattle.rz_isa.proofs.Exclusion.{list_all_get}
 use Rattle.rz_isa.proofs.Whole.{spelled_bytes}
-use Rattle.rz_isa.proofs.Tests.{or_left}
 
 -- What an instruction names by its address.
 
@@ -153,20 +151,8 @@ direct_targets rows all n row f at =
 
 -- ---- indirect operands
 
-wide_register : (r : Reg) → is_register W64 r ≡ true → is_wide_operand (places.Reg r) ≡ true
-wide_register r h = or_left (is_register W64 r) false h
-
-first_register : (r : Reg) → is_first r ≡ true → is_register W64 r ≡ true
-first_register r h = subst (λ k. is_register W64 k ≡ true) (first_is r h) refl
-
-wide_place : (rule : Option RmRule) (p : Place) → has_place rule W64 p ≡ true → is_wide_operand p ≡ true
-wide_place rule p h1 = grind (arith, nat_tests)
-
 wide_of_class : (c : Size) (w : Width) → is_wide_class c ≡ true → has_width c w ≡ true → W64 ≡ w
 wide_of_class c w h1 h2 = grind (arith, nat_tests)
-
-reg_wide : (row : Row) (r : Reg) → has_reg row W64 r ≡ true → is_wide_operand (places.Reg r) ≡ true
-reg_wide row r h1 = grind (arith, nat_tests)
 
 -- a place of 64 bits, by its letter
 letter_wide : (row : Row) (l : Letter) (f : Fields) → has_reg row W64 f.reg ≡ true → has_place row.rm W64 f.rm ≡ true → is_wide_operand (place_at l f) ≡ true

@@ -1,5 +1,5 @@
 use Rattle.std.proofs.Common.{ℕ, ◌≡◌, ◌+◌, ◌%◌, ◌^◌, ◌<◌, ◌≤◌, ◌==◌, refl, ap, sym, ◌∙◌, subst, arith, List, [], ◌∷◌, ◌++◌, length, Bool, true, false, not, ◌&&◌, ◌||◌, Option, Some, None, length-append}
-use Rattle.std.specs.Prelude.{nat_lt, nat_le, is_some, if◌then◌else◌, is_none}
+use Rattle.std.specs.Prelude.{nat_lt, is_some, if◌then◌else◌}
 use Rattle.std.proofs.lemmas.Bool.Decides.{nat_tests}
 use Rattle.std.proofs.lemmas.Grind.{common_steps}
 use Rattle.rz_isa.proofs.Types.{Width, OpMap, RmRule, ImmKind, Row, Place, Fields}
@@ -7,11 +7,11 @@ use Rattle.rz_isa.specs.declared.rows.RmRule.TheVariants as rules
 use Rattle.rz_isa.specs.declared.rows.ImmKind.TheVariants as imms
 use Rattle.rz_isa.specs.declared.instruction.Place.TheVariants as places
 use Rattle.rz_num.specs.Bytes.{are_bytes}
-use Rattle.rz_isa.specs.Spelling.{Parts, bytes_of, rex_bytes, escape, is_met, b_demand, w_demand, opcode_fits, rm_fits, rm_len, width_at, imm_len, rex_fits, Fits, SpelledBy}
+use Rattle.rz_isa.specs.Spelling.{Parts, bytes_of, rex_bytes, escape, is_met, b_demand, w_demand, opcode_fits, rm_fits, width_at, imm_len, rex_fits, Fits, SpelledBy}
 use Rattle.rz_isa.specs.Fields.{reg_of, rm_place, rm_width, reg_number, imm_of, rep_of, fields}
-use Rattle.rz_isa.specs.Having.{code_of, in_opcode, has_cond, has_imm, has_place, is_half, is_repeat, opcode_of, is_extended, can_have}
+use Rattle.rz_isa.specs.Having.{code_of, has_imm, has_place, is_half, is_repeat, opcode_of, is_extended, can_have}
 use Rattle.rz_isa.specs.Canonical.{offset, repeat_prefix, prefixes_for, rex_for, rm_bytes, imm_value, parts_for, place_reaches, imm_reaches, reaches}
-use Rattle.rz_isa.specs.Regular.{is_block, stands_alone, is_regular}
+use Rattle.rz_isa.specs.Regular.{stands_alone, is_regular}
 use Rattle.rz_isa.specs.Spells.{CanHave}
 use Rattle.rz_isa.proofs.Again.{Had, had_of}
 use Rattle.rz_isa.proofs.Inverse.{IsRegular, regular_of}
@@ -24,31 +24,6 @@ use Rattle.rz_isa.proofs.Tests.{and_parts, and_both, below_test, within_test, eq
 -- The canonical parts of fields are spelled by their row and read as the fields.
 
 -- ---- the opcode
-
-eight_none : (rm : Option RmRule) (o span : ℕ) → (nat_lt o 256 && (span == 1 || (span == 16 && o % 16 == 0) || (span == 8 && o % 8 == 0 && is_none rm))) ≡ true → (span == 8) ≡ true → in_opcode rm span ≡ true
-eight_none rm o span h1 h2 = grind (arith, nat_tests)
-
-not_in_opcode : (rm : Option RmRule) (span : ℕ) → (span == 8) ≡ false → in_opcode rm span ≡ false
-not_in_opcode rm span h1 = grind (arith, nat_tests)
-
--- 1, 8 or 16 opcodes
-spans : (r : Row) → is_block r ≡ true → (r.span == 8) ≡ false → (r.span == 16) ≡ false → r.span ≡ 1
-spans r b e s = grind (arith, nat_tests)
-
-sixteen_aligned : (r : Row) → is_block r ≡ true → (r.span == 16) ≡ true → r.opcode % 16 ≡ 0
-sixteen_aligned r b s = grind (arith, nat_tests)
-
-opcode_byte : (r : Row) → is_block r ≡ true → r.opcode < 256
-opcode_byte r b = grind (arith, nat_tests)
-
-cond_small : (span c : ℕ) → has_cond span c ≡ true → (span == 16) ≡ true → c < 16
-cond_small span c h s = grind (arith, nat_tests)
-
-cond_zero : (span c : ℕ) → has_cond span c ≡ true → (span == 16) ≡ false → c ≡ 0
-cond_zero span c h s = grind (arith, nat_tests)
-
-within : (a s o : ℕ) → a ≤ o → o < a + s → (nat_le a o && nat_lt o (a + s)) ≡ true
-within a s o le lt = grind (arith, nat_tests)
 
 pub record OpcodeRead (row : Row) (f : Fields) : Type 0 where
   pub fits : opcode_fits row (opcode_of row f) ≡ true
@@ -136,9 +111,6 @@ escape_are m = grind (arith, nat_tests)
 
 escape_short : (m : OpMap) → length (escape m) ≤ 1
 escape_short m = grind (arith, nat_tests)
-
-rm_len_short : (m s : ℕ) → rm_len m s ≤ 6
-rm_len_short m s = grind (arith, nat_tests)
 
 rm_short : (rule : RmRule) (digit : Option ℕ) (bs : List ℕ) → rm_fits (Some rule) digit bs ≡ true → length bs ≤ 6
 rm_short rule digit bs h1 = grind (arith, nat_tests)
