@@ -160,10 +160,7 @@ least_b row = grind (arith, nat_tests)
 -- the exchange with the accumulator takes its register from the opcode
 exchange_met : (row : Row) (f g : Fields) (op : Op) → in_opcode row.rm row.span ≡ true → g.reg ≡ f.reg → is_met (b_demand op row.map (opcode_of row f)) (b_needed row f) ≡ true
     → is_met (b_demand op row.map (opcode_of row g)) (b_needed row g) ≡ true
-exchange_met row f g op at reg met =
-    let o : opcode_of row g ≡ opcode_of row f = ap (λ k. row.opcode + (if k then code_of g.reg % 8 else g.cond)) at ∙ (ap (λ r. row.opcode + code_of r % 8) reg ∙ sym (ap (λ k. row.opcode + (if k then code_of f.reg % 8 else f.cond)) at)) in
-    let b : b_needed row g ≡ b_needed row f = ap (λ k. if k then code_of g.reg / 8 else place_b g.rm) at ∙ (ap (λ r. code_of r / 8) reg ∙ sym (ap (λ k. if k then code_of f.reg / 8 else place_b f.rm) at)) in
-    subst (λ x. is_met (b_demand op row.map x) (b_needed row g) ≡ true) (sym o) (subst (λ x. is_met (b_demand op row.map (opcode_of row f)) x ≡ true) (sym b) met)
+exchange_met row f g op h1 h2 h3 = grind (arith, nat_tests)
 
 -- ---- what builds an instruction is found again
 

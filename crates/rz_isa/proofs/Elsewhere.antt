@@ -43,37 +43,24 @@ length_short row f regular can =
 -- ---- a row without a displacement from the next address
 
 pub no_displacement : (b : Bool) (n : ℕ) → (if b then Some n else None) ≡ None → b ≡ false
-no_displacement true n e = absurd (none_some n (sym e))
-no_displacement false n e = refl
+no_displacement b n h1 = grind (arith, nat_tests)
 
 near_form : (f : Form) (k : Option ImmKind) → form_suits f k ≡ true → is_displacement k ≡ false → f ≡ forms.Near
-near_form forms.Near k s n = refl
-near_form forms.Short k s n = absurd (never (is_displacement k) s n)
+near_form f k h1 h2 = grind (arith, nat_tests)
 
 pub imm_near : (k : Option ImmKind) (next n : ℕ) → is_displacement k ≡ false → imm_reaches k next n ≡ true
-imm_near (Some imms.J8) next n e = absurd (cc)
-imm_near (Some imms.J32) next n e = absurd (cc)
-imm_near _ next n e = refl
+imm_near k next n h1 = grind (arith, nat_tests)
 
 -- ---- an operation that doesn't use its ModRM operand is found with the least place
 
 not_least : (r : Option RmRule) (a : ℕ) → places.At a ≡ least_place r → ⊥
-not_least (Some rules.Any) a e = absurd (cc)
-not_least (Some rules.MemoryOnly) a e = absurd (cc)
-not_least (Some rules.RegisterOnly) a e = absurd (cc)
-not_least (Some (rules.Fixed b)) a e = absurd (cc)
-not_least None a e = absurd (cc)
+not_least r a h1 = grind (arith, nat_tests)
 
 found_before : (row : Row) (x : Insn) (f : Fields) → found row x ≡ Some f → found_in row.op x (least row) ≡ Some f
 found_before row x f e = option_and_then_some (if_can row) (found_in row.op x (least row)) f e (λ m em eg. em ∙ ap Some (through (can_have row m) m f eg).1)
 
 place_of_least : (row : Row) (g f : Fields) → f.rm ≡ least_place row.rm → Below row g f ⊎ (g ≡ least row) → g.rm ≡ least_place row.rm
-place_of_least row g f e (inl b) = by b.rm
-  where
-    by : (g.rm ≡ f.rm) ⊎ (g.rm ≡ least_place row.rm) → g.rm ≡ least_place row.rm
-    by (inl k) = k ∙ e
-    by (inr k) = k
-place_of_least row g f e (inr k) = ap (λ (m : Fields). m.rm) k
+place_of_least row g f h1 h2 = grind (arith, nat_tests)
 
 pub unused_place : (row : Row) (x : Insn) (f : Fields) (a : ℕ) → is_regular row ≡ true → IgnoresPlace row.op → found row x ≡ Some f → f.rm ≡ places.At a → ⊥
 unused_place row x f a regular unused e at =
@@ -120,8 +107,7 @@ low_reaches x at c regular e free low names =
     and_both (place_reaches next c.fields.rm) (imm_reaches c.row.imm next c.fields.imm) (place_near c.row x c.fields next c.fields.rm regular e refl names ln) (imm_near c.row.imm next c.fields.imm free)
 
 some_if : (b : Bool) (s : List ℕ) → b ≡ true → IsSome (if b then Some s else None)
-some_if true s e = refl
-some_if false s e = absurd (cc)
+some_if b s h1 = grind (arith, nat_tests)
 
 by_chosen : (rows : List Row) (x : Insn) (at : ℕ) → list_all is_regular rows ≡ true → list_all is_suited rows ≡ true → target_of x ≡ None → at + 32 ≤ 2 ^ 31 → NamesLow x
     → (o : Option Chosen) → chosen rows forms.Near x ≡ o → IsSome o → IsSome (spelled_at at o)

@@ -56,23 +56,7 @@ pub either_way : {X : Type 0} (P : X → Type 0) (a b c : X) → (a ≡ b) ⊎ (
 either_way P a b c h1 h2 h3 = grind (arith, nat_tests)
 
 rex_less : (row : Row) (g f : Fields) → Below row g f → rex_needed row g ≤ rex_needed row f
-rex_less row g f b =
-    let w : w_needed row.size g.w ≡ w_needed row.size f.w = ap (w_needed row.size) b.w in
-    let c : code_of g.reg ≤ code_of f.reg = either_way (λ r. code_of r ≤ code_of f.reg) g.reg f.reg (regs.R 0) b.reg (omega arith) (omega arith) in
-    let x : x_needed g.rm ≤ x_needed f.rm = either_way (λ p. x_needed p ≤ x_needed f.rm) g.rm f.rm (least_place row.rm) b.rm (omega arith) (omega (arith, least_x row.rm)) in
-    let p : place_b g.rm ≤ place_b f.rm = either_way (λ p. place_b p ≤ place_b f.rm) g.rm f.rm (least_place row.rm) b.rm (omega arith) (omega (arith, least_place_b row.rm)) in
-    let e = eighth (code_of g.reg) (code_of f.reg) c in
-    sums _ _ _ _ _ _ _ _ w (when_less (in_reg_field row.rm row.digit) _ 0 _ 0 e (omega arith)) x (when_less (in_opcode row.rm row.span) _ _ _ _ e p)
-  where
-    eighth : (a b : ℕ) → a ≤ b → a / 8 ≤ b / 8
-    eighth a b h = omega arith
-
-    when_less : (t : Bool) (a b c d : ℕ) → a ≤ c → b ≤ d → (if t then a else b) ≤ (if t then c else d)
-    when_less true a b c d ac bd = ac
-    when_less false a b c d ac bd = bd
-
-    sums : (a b c d p q r s : ℕ) → a ≡ p → b ≤ q → c ≤ r → d ≤ s → 8 * a + 4 * b + 2 * c + d ≤ 8 * p + 4 * q + 2 * r + s
-    sums a b c d p q r s ea eb ec ed = omega arith
+rex_less row g f h1 = grind (arith, nat_tests)
 
 -- what the lesser fields need or bar, the others do
 abbrev Kept : Bool → Bool → Type 0

@@ -30,13 +30,7 @@ signed_of : (bs : List ℕ) (n m : ℕ) (z : ℤ) → number bs ≡ n → number
 signed_of bs n m z en em h = ap (λ k. if nat_lt (2 * k) (numbers bs) then pos k else pos k -ℤ pos (numbers bs)) en ∙ (ap (λ k. if nat_lt (2 * n) k then pos n else pos n -ℤ pos k) em ∙ h)
 
 pub signed_4 : (z : ℤ) → is_disp z ≡ true → signed (little 4 (low_32 z)) ≡ z
-signed_4 (pos k) s =
-    let lt : k < 2 ^ 31 = grind (arith, nat_tests) in
-    signed_of (little 4 k) k (2 ^ 32) (pos k) (number_4 k ∙ omega arith) refl (signed_when k (2 ^ 32) (pos k) (omega arith) (λ _. refl) (λ e. absurd (grind (arith, nat_tests))))
-signed_4 (negsuc k) s =
-    let lt : k < 2 ^ 31 = grind (arith, nat_tests) in
-    let n : number (little 4 (2 ^ 32 - 1 - k)) ≡ 2 ^ 32 - 1 - k = omega (arith, number_4 (2 ^ 32 - 1 - k)) in
-    signed_of (little 4 (2 ^ 32 - 1 - k)) (2 ^ 32 - 1 - k) (2 ^ 32) (negsuc k) n refl (signed_when (2 ^ 32 - 1 - k) (2 ^ 32) (negsuc k) (omega arith) (λ e. absurd (grind (arith, nat_tests))) (λ _. ap negsuc (omega arith)))
+signed_4 z h1 = grind (arith, nat_tests)
 
 pub disp_again : (low : ℕ) (z : ℤ) → is_disp z ≡ true → signed (disp_bytes (mode_of low z) z) ≡ z
 disp_again low z h1 = grind (arith, nat_tests)
@@ -50,8 +44,7 @@ mode_not z = grind arith
 -- ---- sign-extended numbers
 
 extended_when : (bs : List ℕ) (n m d : ℕ) → number bs ≡ n → numbers bs ≡ m → (nat_lt (2 * n) m ≡ true → n ≡ d) → (nat_lt (2 * n) m ≡ false → n + (2 ^ 64 - m) ≡ d) → extended bs ≡ d
-extended_when bs n m d en em f g =
-    ap (λ k. if nat_lt (2 * k) (numbers bs) then k else k + (2 ^ 64 - numbers bs)) en ∙ (ap (λ k. if nat_lt (2 * n) k then n else n + (2 ^ 64 - k)) em ∙ if_both (λ k. k ≡ d) (nat_lt (2 * n) m) n (n + (2 ^ 64 - m)) f g)
+extended_when bs n m d h1 h2 h3 h4 = grind (arith, nat_tests)
 
 pub extended_4 : (d : ℕ) → is_extended (2 ^ 31) (2 ^ 64) d ≡ true → extended (little 4 d) ≡ d
 extended_4 d h = extended_when (little 4 d) (d % 2 ^ 32) (2 ^ 32) d (number_4 d) refl (λ e. grind (arith, nat_tests)) (λ e. grind (arith, nat_tests))
