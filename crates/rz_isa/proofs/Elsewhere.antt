@@ -25,7 +25,7 @@ use Rattle.rz_isa.proofs.Whole.{find_home, spelled_for}
 use Rattle.rz_isa.proofs.Choice.{has_chosen, chosen_first, length_is}
 use Rattle.rz_isa.proofs.Exclusion.{list_all_get}
 use Rattle.rz_isa.proofs.Targeted.{rip_targets, direct_targets, suited_form}
-use Rattle.rz_isa.proofs.Tests.{never, and_both, some_same, none_some, through}
+use Rattle.rz_isa.proofs.Tests.{and_both, some_same, through}
 
 -- An instruction without a direct target has a canonical spelling at every low address.
 

@@ -5,10 +5,10 @@ use Rattle.rz_isa.proofs.Types.{Width, F3Rule, RmRule, ImmKind, Row, Fields}
 use Rattle.rz_isa.specs.declared.instruction.Reg.TheVariants as regs
 use Rattle.rz_isa.specs.Spelling.{is_met, b_demand}
 use Rattle.rz_isa.specs.Fields.{rm_width}
-use Rattle.rz_isa.specs.Having.{has_width, is_register, is_first, is_high, is_low_byte, in_reg_field, in_opcode, has_reg, has_place, has_cond, has_imm, has_rep, code_of, w_needed, x_needed, place_b, b_needed, rex_needed, low_byte_place, high_place, bars_rex, needs_rex, opcode_of}
+use Rattle.rz_isa.specs.Having.{has_width, is_register, is_first, is_high, is_low_byte, in_reg_field, in_opcode, has_reg, has_place, has_cond, has_imm, has_rep, b_needed, rex_needed, low_byte_place, high_place, bars_rex, needs_rex, opcode_of}
 use Rattle.rz_isa.specs.Finding.{least_place, least}
 use Rattle.rz_isa.specs.Regular.{is_byte_class}
-use Rattle.rz_isa.proofs.Again.{Below, Numbered, Had, least_place_b}
+use Rattle.rz_isa.proofs.Again.{Below, Numbered, Had}
 use Rattle.rz_isa.proofs.Tests.{never, if_both}
 
 -- Lesser fields can be had where the fields that they are below can.
@@ -34,9 +34,6 @@ no_imm k w = grind (arith, nat_tests)
 
 no_rep : (r : F3Rule) → has_rep r 0 ≡ true
 no_rep r = grind (arith, nat_tests)
-
-least_x : (r : Option RmRule) → x_needed (least_place r) ≡ 0
-least_x r = grind (arith, nat_tests)
 
 pub first_low : (w : Width) → is_low_byte w (regs.R 0) ≡ false
 first_low w = grind (arith, nat_tests)

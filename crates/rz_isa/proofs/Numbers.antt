@@ -1,4 +1,4 @@
-use Rattle.std.proofs.Common.{ℕ, zero, suc, pos, negsuc, ◌≡◌, ◌+◌, ◌-◌, ◌*◌, ◌%◌, ◌^◌, ◌<◌, ◌≤◌, ◌-ℤ◌, refl, ap, sym, ◌∙◌, subst, arith, List, [], ◌∷◌, length, true, inl, inr}
+use Rattle.std.proofs.Common.{ℕ, zero, suc, pos, ◌≡◌, ◌+◌, ◌-◌, ◌*◌, ◌%◌, ◌^◌, ◌<◌, ◌≤◌, ◌-ℤ◌, refl, ap, sym, ◌∙◌, subst, arith, List, [], ◌∷◌, length, true, inl, inr}
 use Rattle.std.specs.Prelude.{nat_lt, if◌then◌else◌}
 use Rattle.std.proofs.lemmas.Bool.{cases_Bool}
 use Rattle.std.proofs.lemmas.Bool.Decides.{nat_tests}
@@ -41,10 +41,6 @@ numbers_full W32 bs e = numbers_of bs 4 e
 numbers_full W64 bs e = numbers_of bs 8 e
 
 -- ---- a signed number of at most four bytes has 32 bits
-
--- a number below m minus m
-pub minus_is : (n m : ℕ) → n < m → pos n -ℤ pos m ≡ negsuc (m - 1 - n)
-minus_is n m lt = omega (arith, ints)
 
 signed_disp : (n m : ℕ) → n < m → m ≤ 2 ^ 32 → is_disp (if nat_lt (2 * n) m then pos n else pos n -ℤ pos m) ≡ true
 signed_disp n m h1 h2 = grind (arith, nat_tests)
