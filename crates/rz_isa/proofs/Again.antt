@@ -121,18 +121,8 @@ pub record Had (row : Row) (f : Fields) : Type 0 where
   pub rex : not (bars_rex f && needs_rex row f) ≡ true
   pub b : is_met (b_demand row.op row.map (opcode_of row f)) (b_needed row f) ≡ true
 
-pub record Eight (a b c d e f g h : Bool) : Type 0 where
-  pub one : a ≡ true
-  pub two : b ≡ true
-  pub three : c ≡ true
-  pub four : d ≡ true
-  pub five : e ≡ true
-  pub six : f ≡ true
-  pub seven : g ≡ true
-  pub eight : h ≡ true
-
-pub eight : (a b c d e f g h : Bool) → (a && b && c && d && e && f && g && h) ≡ true → Eight a b c d e f g h
-eight a b c d e f g h x = record { one = grind arith; two = grind arith; three = grind arith; four = grind arith; five = grind arith; six = grind arith; seven = grind arith; eight = grind arith }
+pub eight : (a b c d e f g h : Bool) → (a && b && c && d && e && f && g && h) ≡ true → (a ≡ true) × (b ≡ true) × (c ≡ true) × (d ≡ true) × (e ≡ true) × (f ≡ true) × (g ≡ true) × (h ≡ true)
+eight a b c d e f g h x = (grind arith, grind arith, grind arith, grind arith, grind arith, grind arith, grind arith, grind arith)
 
 pub all_eight : (a b c d e f g h : Bool) → a ≡ true → b ≡ true → c ≡ true → d ≡ true → e ≡ true → f ≡ true → g ≡ true → h ≡ true → (a && b && c && d && e && f && g && h) ≡ true
 all_eight a b c d e f g h ea eb ec ed ee ef eg eh = grind arith
@@ -141,7 +131,7 @@ pub had_of : (row : Row) (f : Fields) → can_have row f ≡ true → Had row f
 had_of row f h =
     let e = eight (has_width row.size f.w) (has_reg row f.w f.reg) (has_place row.rm (rm_width row.op f.w) f.rm) (has_cond row.span f.cond) (has_imm row.imm f.w f.imm) (has_rep row.f3 f.rep)
     (not (bars_rex f && needs_rex row f)) (is_met (b_demand row.op row.map (opcode_of row f)) (b_needed row f)) h in
-    record { w = e.one; reg = e.two; rm = e.three; cond = e.four; imm = e.five; rep = e.six; rex = e.seven; b = e.eight }
+    record { w = e.0; reg = e.1; rm = e.2; cond = e.3; imm = e.4; rep = e.5; rex = e.6; b = e.7 }
 
 pub can_of : (row : Row) (f : Fields) → Had row f → can_have row f ≡ true
 can_of row f h = all_eight _ _ _ _ _ _ _ _ h.w h.reg h.rm h.cond h.imm h.rep h.rex h.b

@@ -147,18 +147,8 @@ built (ops.Pop d) (insns.Pop dst) f g a small e = ap insns.Pop (with_place-step 
 built ops.Leave insns.Leave f g a small e = refl
 built ops.PushFlags insns.PushFlags f g a small e = refl
 built ops.PopFlags insns.PopFlags f g a small e = refl
-built (ops.Unary o d) (insns.Unary p w dst) f g a small e =
-    let t = passed (same_unary o p) _ g e in
-    let q = same_unary-is o p t.0 in
-    let r = with_place-step d dst _ g t.1 in
-    let v = w_kept (place_slot d) _ g r.1 in
-    λ i. insns.Unary (q i) (v i) (r.0 i)
-built (ops.Wide o s) (insns.Wide p w src) f g a small e =
-    let t = passed (same_wide o p) _ g e in
-    let q = same_wide-is o p t.0 in
-    let r = with_place-step s src _ g t.1 in
-    let v = w_kept (place_slot s) _ g r.1 in
-    λ i. insns.Wide (q i) (v i) (r.0 i)
+built (ops.Unary o d) (insns.Unary p w dst) f g a small e = grind (arith, nat_tests)
+built (ops.Wide o s) (insns.Wide p w src) f g a small e = grind (arith, nat_tests)
 built (ops.Imul2 d s) (insns.Imul2 w dst src) f g a small e = let r = number_place d s dst src _ g a e in λ i. insns.Imul2 (r.w i) (r.dst i) (r.src i)
 built (ops.Imul3 d s k) (insns.Imul3 w dst src imm) f g a small e = let r = number_place d s dst src _ g a e in λ i. insns.Imul3 (r.w i) (r.dst i) (r.src i) (r.imm i)
 built (ops.Shift o d c) (insns.Shift p w dst count) f g a small e =
@@ -175,32 +165,19 @@ built (ops.Cmov d s) (insns.Cmov c w dst src) f g a small e =
     let r = number_place d s dst src _ g a e in
     let q = ap (λ k. cond_of (k % 16)) r.cond ∙ cond_again c in
     λ i. insns.Cmov (q i) (r.w i) (r.dst i) (r.src i)
-built (ops.Set d) (insns.Set c dst) f g a small e =
-    let r = with_place-step d dst _ g e in
-    let q = ap (λ k. cond_of (k % 16)) (cond_kept (place_slot d) _ g r.1) ∙ cond_again c in
-    λ i. insns.Set (q i) (r.0 i)
-built ops.Jcc (insns.Jcc c target) f g a small e =
-    let s = some_same _ g e in
-    let q = ap (λ (k : Fields). cond_of (k.cond % 16)) (sym s) ∙ cond_again c in
-    let t = ap (λ (k : Fields). k.imm) (sym s) in
-    λ i. insns.Jcc (q i) (t i)
+built (ops.Set d) (insns.Set c dst) f g a small e = grind (arith, nat_tests)
+built ops.Jcc (insns.Jcc c target) f g a small e = grind (arith, nat_tests)
 built ops.Jrcxz (insns.Jrcxz target) f g a small e = ap (λ (k : Fields). insns.Jrcxz k.imm) (sym (some_same _ g e))
 built ops.Jmp (insns.Jmp target) f g a small e = ap (λ (k : Fields). insns.Jmp k.imm) (sym (some_same _ g e))
 built ops.Call (insns.Call target) f g a small e = ap (λ (k : Fields). insns.Call k.imm) (sym (some_same _ g e))
 built (ops.CallInd s) (insns.CallInd src) f g a small e = ap insns.CallInd (with_place-step s src f g e).0
 built (ops.JmpInd s) (insns.JmpInd src) f g a small e = ap insns.JmpInd (with_place-step s src f g e).0
-built ops.Ret (insns.Ret pop) f g a small e = let t = ap (λ (k : Fields). k.imm) (sym (some_same _ g e)) in ap insns.Ret (cut16 pop g.imm t small)
-  where
-    cut16 : (n k : ℕ) → k ≡ n → k < 2 ^ 16 → k % 2 ^ 16 ≡ n
-    cut16 n k e lt = omega arith
+built ops.Ret (insns.Ret pop) f g a small e = grind (arith, nat_tests)
 built ops.Convert (insns.Convert w) f g a small e = ap (λ (k : Fields). insns.Convert k.w) (sym (some_same _ g e))
 built ops.SignFill (insns.SignFill w) f g a small e = ap (λ (k : Fields). insns.SignFill k.w) (sym (some_same _ g e))
 built (ops.Xchg d s) (insns.Xchg w dst src) f g a small e = let r = place_and d dst (reg_slot s) _ (with_reg s src) _ g a (λ m em. with_reg-step s src m g em) e in λ i. insns.Xchg (r.0.w i) (r.0.dst i) (r.1 i)
 built ops.Nop insns.Nop f g a small e = refl
-built (ops.Bswap d) (insns.Bswap w reg) f g a small e =
-    let r = with_number-step d reg _ g e in
-    let v = w_kept (reg_slot d) _ g r.1 in
-    λ i. insns.Bswap (v i) (r.0 i)
+built (ops.Bswap d) (insns.Bswap w reg) f g a small e = grind (arith, nat_tests)
 built (ops.BitTest o d k) (insns.BitTest p w dst index) f g a small e =
     let t = passed (same_bit o p) _ g e in
     let q = same_bit-is o p t.0 in
@@ -211,16 +188,8 @@ built (ops.Scan o d s) (insns.Scan p w dst src) f g a small e =
     let q = same_scan-is o p t.0 in
     let r = number_place d s dst src _ g a t.1 in
     λ i. insns.Scan (q i) (r.w i) (r.dst i) (r.src i)
-built ops.Movs (insns.Movs w rep) f g a small e =
-    let s = some_same _ g e in
-    let v = ap (λ (k : Fields). k.w) (sym s) in
-    let q = ap (λ (k : Fields). is_rep k.rep) (sym s) ∙ rep_again rep in
-    λ i. insns.Movs (v i) (q i)
-built ops.Stos (insns.Stos w rep) f g a small e =
-    let s = some_same _ g e in
-    let v = ap (λ (k : Fields). k.w) (sym s) in
-    let q = ap (λ (k : Fields). is_rep k.rep) (sym s) ∙ rep_again rep in
-    λ i. insns.Stos (v i) (q i)
+built ops.Movs (insns.Movs w rep) f g a small e = grind (arith, nat_tests)
+built ops.Stos (insns.Stos w rep) f g a small e = grind (arith, nat_tests)
 built (ops.Flag o) (insns.Flag p) f g a small e = ap insns.Flag (same_change-is o p (passed (same_change o p) (Some f) g e).0)
 built ops.Syscall insns.Syscall f g a small e = refl
 built ops.Ud2 insns.Ud2 f g a small e = refl

@@ -28,26 +28,14 @@ pub record IsRegular (r : Row) : Type 0 where
   pub exchange : (not (is_exchange r.op) || r.span == 8) ≡ true
   pub number : not (names_number r.op && is_byte_class r.size) ≡ true
 
-record Ten (a b c d e f g h i j : Bool) : Type 0 where
-  one : a ≡ true
-  two : b ≡ true
-  three : c ≡ true
-  four : d ≡ true
-  five : e ≡ true
-  six : f ≡ true
-  seven : g ≡ true
-  eight : h ≡ true
-  nine : i ≡ true
-  ten : j ≡ true
-
-ten : (a b c d e f g h i j : Bool) → (a && b && c && d && e && f && g && h && i && j) ≡ true → Ten a b c d e f g h i j
-ten a b c d e f g h i j x = record { one = grind arith; two = grind arith; three = grind arith; four = grind arith; five = grind arith; six = grind arith; seven = grind arith; eight = grind arith; nine = grind arith; ten = grind arith }
+ten : (a b c d e f g h i j : Bool) → (a && b && c && d && e && f && g && h && i && j) ≡ true → (a ≡ true) × (b ≡ true) × (c ≡ true) × (d ≡ true) × (e ≡ true) × (f ≡ true) × (g ≡ true) × (h ≡ true) × (i ≡ true) × (j ≡ true)
+ten a b c d e f g h i j x = (grind arith, grind arith, grind arith, grind arith, grind arith, grind arith, grind arith, grind arith, grind arith, grind arith)
 
 pub regular_of : (r : Row) → is_regular r ≡ true → IsRegular r
 regular_of r h =
     let n = ten (operands_apart r.op) (imm_suits r.op r.imm) (width_suits r.op r.size) (not (stands_alone r.imm && is_some r.rm)) (is_block r) (digit_small r.digit) (rule_small r.rm r.digit)
     (not (is_some (b_demand r.op r.map 0x90) && is_some r.rm)) (not (is_exchange r.op) || r.span == 8) (not (names_number r.op && is_byte_class r.size)) h in
-    record { operands = n.one; imm = n.two; width = n.three; alone = n.four; block = n.five; digit = n.six; rule = n.seven; demand = n.eight; exchange = n.nine; number = n.ten }
+    record { operands = n.0; imm = n.1; width = n.2; alone = n.3; block = n.4; digit = n.5; rule = n.6; demand = n.7; exchange = n.8; number = n.9 }
 
 -- ---- immediates of counts, bit indexes and Ret
 

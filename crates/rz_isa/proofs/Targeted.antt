@@ -122,31 +122,22 @@ rip_targets _ = inl (record { same = λ f p. refl; none = λ f. refl })
 
 -- ---- direct targets
 
-record Seven (a b c d e f g : Bool) : Type 0 where
-  one : a ≡ true
-  two : b ≡ true
-  three : c ≡ true
-  four : d ≡ true
-  five : e ≡ true
-  six : f ≡ true
-  seven : g ≡ true
-
-seven : (a b c d e f g : Bool) → (a && b && c && d && e && f && g) ≡ true → Seven a b c d e f g
-seven a b c d e f g h = record { one = grind arith; two = grind arith; three = grind arith; four = grind arith; five = grind arith; six = grind arith; seven = grind arith }
+suits_all : (a b c d e f g : Bool) → (a && b && c && d && e && f && g) ≡ true → (c ≡ true) × (f ≡ true) × (g ≡ true)
+suits_all a b c d e f g h = (grind arith, grind arith, grind arith)
 
 suits : (r : Row) → is_suited r ≡ true
-    → Seven (list_all (letter_suits r) (letters_of r.op)) (same_truth (has_condition r.op) (r.span == 16)) (same_truth (has_target r.op) (is_displacement r.imm)) (same_truth (has_repeat r.op) (is_repeats r.f3)) (prefixes_suit r) (not (is_indirect r.op) || is_wide_class r.size) (form_suits r.form r.imm)
-suits r h = seven _ _ _ _ _ _ _ h
+    → (same_truth (has_target r.op) (is_displacement r.imm) ≡ true) × ((not (is_indirect r.op) || is_wide_class r.size) ≡ true) × (form_suits r.form r.imm ≡ true)
+suits r h = suits_all (list_all (letter_suits r) (letters_of r.op)) (same_truth (has_condition r.op) (r.span == 16)) _ (same_truth (has_repeat r.op) (is_repeats r.f3)) (prefixes_suit r) _ _ h
 
 pub suited_form : (r : Row) → is_suited r ≡ true → form_suits r.form r.imm ≡ true
-suited_form r h = (suits r h).seven
+suited_form r h = (suits r h).2
 
 target_by_op : (op : Op) (f : Fields) → target_of (build_op op f) ≡ (if has_target op then Some f.imm else None)
 target_by_op op f = grind (arith, nat_tests)
 
 pub direct_targets : (rows : List Row) → list_all is_suited rows ≡ true → DirectTargets rows
 direct_targets rows all n row f at =
-    let e = same_truth-is (has_target row.op) (is_displacement row.imm) (suits row (list_all_get is_suited rows n row all at)).three in
+    let e = same_truth-is (has_target row.op) (is_displacement row.imm) (suits row (list_all_get is_suited rows n row all at)).0 in
     target_by_op row.op f ∙ ap (λ b. if b then Some f.imm else None) e
 
 -- ---- indirect operands
@@ -175,4 +166,4 @@ indirect_operands rows regular all n row x p at s e =
     let r = s.by_row in
     let b = spelled_bytes row r.parts s.bytes r.spelled in
     let had = had_of row _ (fields_had row r.parts (next_address s.at s.bytes) (list_all_get is_regular rows n row regular at) r.spelled.fits b.0 b.1) in
-    indirect_wide row row.op _ p refl (suits row (list_all_get is_suited rows n row all at)).six had (sym (ap indirect_operand r.names) ∙ e)
+    indirect_wide row row.op _ p refl (suits row (list_all_get is_suited rows n row all at)).1 had (sym (ap indirect_operand r.names) ∙ e)
