@@ -10,9 +10,8 @@ use Rattle.rz_isa.specs.declared.instruction.Reg.TheVariants as regs
 use Rattle.rz_isa.specs.Spelling.{is_met, b_demand}
 use Rattle.rz_isa.specs.Fields.{build_op, letter_width, rm_width, is_rep, place_at, operand_at, reg_at, number_of, number_at, count_at, index_at}
 use Rattle.rz_isa.specs.Having.{has_width, has_reg, has_place, has_cond, has_imm, has_rep, bars_rex, needs_rex, in_opcode, opcode_of, b_needed, place_b, can_have}
-use Rattle.rz_isa.specs.Finding.{least_width, least_place, least, with_place, with_operand, with_reg, with_number, with_count, with_index, same_width, rep_byte, found_in}
+use Rattle.rz_isa.specs.Finding.{same_truth, same_arith, same_unary, same_wide, same_shift, same_bit, same_scan, same_change, least_width, least_place, least, with_place, with_operand, with_reg, with_number, with_count, with_index, same_width, rep_byte, found_in}
 use Rattle.rz_isa.specs.Regular.{is_single, width_suits, names_number, is_exchange}
-use Rattle.rz_isa.proofs.Equal.{same_width-refl, same_truth-refl, same_arith-refl, same_unary-refl, same_wide-refl, same_shift-refl, same_bit-refl, same_scan-refl, same_change-refl}
 use Rattle.rz_isa.proofs.Built.{imm_small}
 use Rattle.rz_isa.proofs.Exclusion.{each_from_at}
 use Rattle.rz_isa.proofs.Tests.{equal_is}
@@ -199,22 +198,22 @@ stays : (row : Row) (f g : Fields) → Below row g f → Step row f (Some g)
 stays row f g h = (g, (refl, h))
 
 pub again : (op : Op) (row : Row) (f : Fields) → Asked op row f → Again op row f
-again (ops.Arith o d s) row f h = free _ row f (λ m k n. refl) (same row f _ _ (same_arith-refl o) (place_operand_again row d s f _ (width_below row f)))
+again (ops.Arith o d s) row f h = free _ row f (λ m k n. refl) (same row f (same_arith o o) _ (grind arith) (place_operand_again row d s f _ (width_below row f)))
 again (ops.Test d s) row f h = free _ row f (λ m k n. refl) (place_operand_again row d s f _ (width_below row f))
 again (ops.Mov d s) row f h = free _ row f (λ m k n. refl) (place_operand_again row d s f _ (width_below row f))
 again (ops.Lea d s) row f h = free _ row f (λ m k n. refl) (number_place_again row d s f _ (h.number refl) (width_below row f))
 again (ops.Extend o d s) row f h =
-    let t = ap (λ k. k && same_width (letter_width s f.w) (letter_width s f.w)) (same_truth-refl o) ∙ same_width-refl (letter_width s f.w) in
+    let t : (same_truth o o && same_width (letter_width s f.w) (letter_width s f.w)) ≡ true = grind arith in
     free _ row f (λ m k n. refl) (same row f _ _ t (number_place_again row d s f _ (h.number refl) (width_below row f)))
 again (ops.Push s) row f h = free _ row f (λ m k n. refl) (operand_again row s f (least row) (alone row f h.single h.w))
 again (ops.Pop d) row f h = free _ row f (λ m k n. refl) (place_again row d f (least row) (alone row f h.single h.w))
-again (ops.Unary o d) row f h = free _ row f (λ m k n. refl) (same row f _ _ (same_unary-refl o) (place_again row d f _ (width_below row f)))
-again (ops.Wide o s) row f h = free _ row f (λ m k n. refl) (same row f _ _ (same_wide-refl o) (place_again row s f _ (width_below row f)))
+again (ops.Unary o d) row f h = free _ row f (λ m k n. refl) (same row f (same_unary o o) _ (grind arith) (place_again row d f _ (width_below row f)))
+again (ops.Wide o s) row f h = free _ row f (λ m k n. refl) (same row f (same_wide o o) _ (grind arith) (place_again row s f _ (width_below row f)))
 again (ops.Imul2 d s) row f h = free _ row f (λ m k n. refl) (number_place_again row d s f _ (h.number refl) (width_below row f))
 again (ops.Imul3 d s i) row f h = free _ row f (λ m k n. refl) (number_place_again row d s f _ (h.number refl) (imm_below row f _ f.imm refl (width_below row f)))
-again (ops.Shift o d c) row f h = free _ row f (λ m k n. refl) (same row f _ _ (same_shift-refl o) (both_again row f _ _ (place_again row d f _ (width_below row f)) (λ m k. count_again row c f m h.small k)))
+again (ops.Shift o d c) row f h = free _ row f (λ m k n. refl) (same row f (same_shift o o) _ (grind arith) (both_again row f _ _ (place_again row d f _ (width_below row f)) (λ m k. count_again row c f m h.small k)))
 again (ops.DoubleShift o d s c) row f h = free _ row f (λ m k n. refl)
-    (same row f _ _ (same_truth-refl o) (both_again row f _ _ (both_again row f _ _ (place_again row d f _ (width_below row f)) (λ m k. number_again row s f m (h.number refl) k)) (λ m k. count_again row c f m h.small k)))
+    (same row f (same_truth o o) _ (grind arith) (both_again row f _ _ (both_again row f _ _ (place_again row d f _ (width_below row f)) (λ m k. number_again row s f m (h.number refl) k)) (λ m k. count_again row c f m h.small k)))
 again (ops.Cmov d s) row f h = free _ row f (λ m k n. refl) (number_place_again row d s f _ (h.number refl) (cond_below row f _ _ (cond_found row.span f.cond h.cond) (width_below row f)))
 again (ops.Set d) row f h = free _ row f (λ m k n. refl) (place_again row d f _ (cond_below row f _ _ (cond_found row.span f.cond h.cond) (alone row f h.single h.w)))
 again ops.Jcc row f h = free _ row f (λ m k n. refl) (stays row f _ (imm_below row f _ f.imm refl (cond_below row f _ _ (cond_found row.span f.cond h.cond) (alone row f h.single h.w))))
@@ -225,11 +224,11 @@ again ops.Convert row f h = free _ row f (λ m k n. refl) (stays row f _ (width_
 again ops.SignFill row f h = free _ row f (λ m k n. refl) (stays row f _ (width_below row f))
 again ops.Nop row f h = record { g = least row; found = refl; below = inr refl; b = nop_met row.map (opcode_of row (least row)) (b_needed row (least row)) (least_b row) }
 again (ops.Bswap d) row f h = free _ row f (λ m k n. refl) (number_again row d f _ (h.number refl) (width_below row f))
-again (ops.BitTest o d i) row f h = free _ row f (λ m k n. refl) (same row f _ _ (same_bit-refl o) (both_again row f _ _ (place_again row d f _ (width_below row f)) (λ m k. index_again row i f m h.small (h.number refl) k)))
-again (ops.Scan o d s) row f h = free _ row f (λ m k n. refl) (same row f _ _ (same_scan-refl o) (number_place_again row d s f _ (h.number refl) (width_below row f)))
+again (ops.BitTest o d i) row f h = free _ row f (λ m k n. refl) (same row f (same_bit o o) _ (grind arith) (both_again row f _ _ (place_again row d f _ (width_below row f)) (λ m k. index_again row i f m h.small (h.number refl) k)))
+again (ops.Scan o d s) row f h = free _ row f (λ m k n. refl) (same row f (same_scan o o) _ (grind arith) (number_place_again row d s f _ (h.number refl) (width_below row f)))
 again ops.Movs row f h = free _ row f (λ m k n. refl) (stays row f _ (rep_below row f _ _ (rep_found row.f3 f.rep h.rep) (width_below row f)))
 again ops.Stos row f h = free _ row f (λ m k n. refl) (stays row f _ (rep_below row f _ _ (rep_found row.f3 f.rep h.rep) (width_below row f)))
-again (ops.Flag o) row f h = free _ row f (λ m k n. refl) (same row f _ _ (same_change-refl o) (stays row f _ (alone row f h.single h.w)))
+again (ops.Flag o) row f h = free _ row f (λ m k n. refl) (same row f (same_change o o) _ (grind arith) (stays row f _ (alone row f h.single h.w)))
 again (ops.Xchg letters.O letters.A) row f h =
     let g : Fields = record (least row) { w = f.w; reg = f.reg } in
     record { g = g; found = refl; below = inl (reg_below row f _ f.reg refl (width_below row f)); b = exchange_met row f g (ops.Xchg letters.O letters.A) (h.exchange refl) refl h.b }

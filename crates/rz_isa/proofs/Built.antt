@@ -1,4 +1,4 @@
-use Rattle.std.proofs.Common.{ℕ, ◌≡◌, ◌%◌, ◌^◌, ◌<◌, refl, ap, sym, ◌∙◌, arith, Bool, true, ◌&&◌, Option, Some}
+use Rattle.std.proofs.Common.{ℕ, ◌≡◌, ◌%◌, ◌^◌, ◌<◌, refl, ap, sym, ◌∙◌, arith, true, ◌&&◌, Option, Some}
 use Rattle.std.specs.Prelude.{⊤}
 use Rattle.std.specs.Option.{option_and_then}
 use Rattle.std.proofs.lemmas.Bool.Decides.{nat_tests}
@@ -8,10 +8,9 @@ use Rattle.rz_flags.specs.Cond.{cond_of, number_of as number_of_cond}
 use Rattle.rz_isa.specs.declared.rows.Op.TheVariants as ops
 use Rattle.rz_isa.specs.declared.instruction.Insn.TheVariants as insns
 use Rattle.rz_isa.specs.declared.instruction.Reg.TheVariants as regs
-use Rattle.rz_isa.specs.Fields.{build_op, letter_width, is_rep, place_at, operand_at, reg_at, number_of, number_at, count_at, index_at}
+use Rattle.rz_isa.specs.Fields.{build_op, letter_width, place_at, operand_at, reg_at, number_of, number_at, count_at, index_at}
 use Rattle.rz_isa.specs.Having.{is_first}
-use Rattle.rz_isa.specs.Finding.{with_place, with_operand, with_reg, with_number, with_count, with_index, same_width, same_truth, same_arith, same_unary, same_wide, same_shift, same_bit, same_scan, same_change, rep_byte, found_in}
-use Rattle.rz_isa.proofs.Equal.{same_width-is, same_truth-is, same_arith-is, same_unary-is, same_wide-is, same_shift-is, same_bit-is, same_scan-is, same_change-is}
+use Rattle.rz_isa.specs.Finding.{with_place, with_operand, with_reg, with_number, with_count, with_index, same_width, same_truth, same_arith, same_shift, same_bit, same_scan, found_in}
 use Rattle.rz_isa.specs.Regular.{Slot, nowhere, in_rm, in_reg, in_imm, place_slot, operand_slot, reg_slot, count_slot, index_slot, apart, operands_apart}
 use Rattle.rz_isa.proofs.Tests.{and_parts, some_same, passed, and_three}
 
@@ -113,9 +112,6 @@ place_number_count d s c p n x f g small a e = option_and_then_some (with_count 
 pub cond_again : (c : Cond) → cond_of (number_of_cond c % 16) ≡ c
 cond_again c = grind (arith, nat_tests)
 
-rep_again : (rep : Bool) → is_rep (rep_byte rep) ≡ rep
-rep_again rep = grind (arith, nat_tests)
-
 -- ---- what is found builds the instruction
 
 abbrev pub imm_small : Op → ℕ → Type 0
@@ -128,7 +124,7 @@ imm_small _ n = ⊤
 pub built : (op : Op) (x : Insn) (f g : Fields) → operands_apart op ≡ true → imm_small op g.imm → found_in op x f ≡ Some g → build_op op g ≡ x
 built (ops.Arith o d s) (insns.Arith p w dst src) f g a small e =
     let t = passed (same_arith o p) _ g e in
-    let q = same_arith-is o p t.0 in
+    let q : o ≡ p = grind arith in
     let r = place_operand d s dst src _ g a t.1 in
     λ i. insns.Arith (q i) (r.0.w i) (r.0.dst i) (r.1 i)
 built (ops.Test d s) (insns.Test w dst src) f g a small e = let r = place_operand d s dst src _ g a e in λ i. insns.Test (r.0.w i) (r.0.dst i) (r.1 i)
@@ -137,8 +133,8 @@ built (ops.Lea d s) (insns.Lea w dst src) f g a small e = let r = number_place d
 built (ops.Extend o d s) (insns.Extend p to from dst src) f g a small e =
     let t = passed (same_truth o p && same_width from (letter_width s to)) _ g e in
     let b = and_parts (same_truth o p) (same_width from (letter_width s to)) t.0 in
-    let q = same_truth-is o p b.0 in
-    let v = same_width-is from (letter_width s to) b.1 in
+    let q : o ≡ p = grind arith in
+    let v : from ≡ letter_width s to = grind arith in
     let r = number_place d s dst src _ g a t.1 in
     let u = ap (letter_width s) r.w ∙ sym v in
     λ i. insns.Extend (q i) (r.w i) (u i) (r.dst i) (r.src i)
@@ -153,12 +149,12 @@ built (ops.Imul2 d s) (insns.Imul2 w dst src) f g a small e = let r = number_pla
 built (ops.Imul3 d s k) (insns.Imul3 w dst src imm) f g a small e = let r = number_place d s dst src _ g a e in λ i. insns.Imul3 (r.w i) (r.dst i) (r.src i) (r.imm i)
 built (ops.Shift o d c) (insns.Shift p w dst count) f g a small e =
     let t = passed (same_shift o p) _ g e in
-    let q = same_shift-is o p t.0 in
+    let q : o ≡ p = grind arith in
     let r = place_and d dst (count_slot c) _ (with_count c count) _ g a (λ m em. with_count-step c count m g small em) t.1 in
     λ i. insns.Shift (q i) (r.0.w i) (r.0.dst i) (r.1 i)
 built (ops.DoubleShift o d s c) (insns.DoubleShift p w dst src count) f g a small e =
     let t = passed (same_truth o p) _ g e in
-    let q = same_truth-is o p t.0 in
+    let q : o ≡ p = grind arith in
     let r = place_number_count d s c dst src count _ g small a t.1 in
     λ i. insns.DoubleShift (q i) (r.0.w i) (r.0.dst i) (r.1 i) (r.2 i)
 built (ops.Cmov d s) (insns.Cmov c w dst src) f g a small e =
@@ -180,17 +176,17 @@ built ops.Nop insns.Nop f g a small e = refl
 built (ops.Bswap d) (insns.Bswap w reg) f g a small e = grind (arith, nat_tests)
 built (ops.BitTest o d k) (insns.BitTest p w dst index) f g a small e =
     let t = passed (same_bit o p) _ g e in
-    let q = same_bit-is o p t.0 in
+    let q : o ≡ p = grind arith in
     let r = place_and d dst (index_slot k) _ (with_index k index) _ g a (λ m em. with_index-step k index m g small em) t.1 in
     λ i. insns.BitTest (q i) (r.0.w i) (r.0.dst i) (r.1 i)
 built (ops.Scan o d s) (insns.Scan p w dst src) f g a small e =
     let t = passed (same_scan o p) _ g e in
-    let q = same_scan-is o p t.0 in
+    let q : o ≡ p = grind arith in
     let r = number_place d s dst src _ g a t.1 in
     λ i. insns.Scan (q i) (r.w i) (r.dst i) (r.src i)
 built ops.Movs (insns.Movs w rep) f g a small e = grind (arith, nat_tests)
 built ops.Stos (insns.Stos w rep) f g a small e = grind (arith, nat_tests)
-built (ops.Flag o) (insns.Flag p) f g a small e = ap insns.Flag (same_change-is o p (passed (same_change o p) (Some f) g e).0)
+built (ops.Flag o) (insns.Flag p) f g a small e = grind arith
 built ops.Syscall insns.Syscall f g a small e = refl
 built ops.Ud2 insns.Ud2 f g a small e = refl
 built ops.Hlt insns.Hlt f g a small e = refl

@@ -28,7 +28,6 @@ use Rattle.rz_isa.specs.Canonical.{repeat_prefix, prefixes_for, rex_for, place_b
 use Rattle.rz_isa.specs.Emitted.{HasSpelling, HasShortSpelling, place_len, near, close, fits_8, fits_32, register, is_wide_operand, is_emitted, is_double}
 use Rattle.rz_isa.proofs.Again.{Had, had_of, can_of}
 use Rattle.rz_isa.proofs.Choice.{serves_by, length_is}
-use Rattle.rz_isa.proofs.Equal.{same_arith-refl}
 use Rattle.rz_isa.proofs.Read.{little_length}
 use Rattle.rz_isa.proofs.Whole.{length_of}
 use Rattle.rz_isa.proofs.Tests.{never, and_both, below_test, unequal_test, some_same, passed, if_both}
@@ -412,7 +411,7 @@ double : (w : Width) → IsTrue (is_double w) → Double w
 double w h = each_double Double (record { wide = refl; half = refl; four = refl; imm = λ n e. e }) (record { wide = refl; half = refl; four = refl; imm = λ n e. e }) w h
 
 itself : (o : ArithOp) (g : Fields) → (if same_arith o o then Some g else None) ≡ Some g
-itself o g = ap (λ b. if b then Some g else None) (same_arith-refl o)
+itself o g = grind arith
 
 no_prefix : (b : Bool) → b ≡ false → length (prefixes_for b 0) ≡ 0
 no_prefix b e = ap (λ k. length (prefixes_for k 0)) e

@@ -19,7 +19,6 @@ use Rattle.rz_isa.specs.Emitted.{is_wide_operand, indirect_operand}
 use Rattle.rz_isa.specs.Targets.{IgnoresPlace, RipTargets, DirectTargets, IndirectOperands}
 use Rattle.rz_isa.proofs.Again.{Had, had_of}
 use Rattle.rz_isa.proofs.Complete.{fields_had}
-use Rattle.rz_isa.proofs.Equal.{same_truth-is}
 use Rattle.rz_isa.proofs.Exclusion.{list_all_get}
 use Rattle.rz_isa.proofs.Whole.{spelled_bytes}
 
@@ -121,6 +120,9 @@ rip_targets (ops.Bswap d) = inl (record { same = λ f p. ap (insns.Bswap f.w) (n
 rip_targets _ = inl (record { same = λ f p. refl; none = λ f. refl })
 
 -- ---- direct targets
+
+same_truth-is : (a b : Bool) → same_truth a b ≡ true → a ≡ b
+same_truth-is a b e = grind arith
 
 suits_all : (a b c d e f g : Bool) → (a && b && c && d && e && f && g) ≡ true → (c ≡ true) × (f ≡ true) × (g ≡ true)
 suits_all a b c d e f g h = (grind arith, grind arith, grind arith)
