@@ -5,7 +5,6 @@ use Rattle.std.proofs.lemmas.Bool.Decides.{nat_tests}
 use Rattle.rz_isa.proofs.Types.{Width, W8, W16, W32, W64, F3Rule, Size, RmRule, ImmKind, Row}
 use Rattle.rz_isa.specs.declared.rows.RmRule.TheVariants as rules
 use Rattle.rz_isa.specs.declared.rows.ImmKind.TheVariants as imms
-use Rattle.rz_isa.specs.declared.instruction.Reg.TheVariants as regs
 use Rattle.rz_isa.specs.declared.instruction.Place.TheVariants as places
 use Rattle.rz_num.specs.Bytes.{are_bytes}
 use Rattle.rz_isa.specs.Number.{number, numbers, extended, displaced_by}

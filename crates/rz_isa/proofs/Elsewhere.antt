@@ -5,8 +5,6 @@ use Rattle.std.proofs.lemmas.Bool.Decides.{nat_tests}
 use Rattle.std.proofs.lemmas.Option.{option_and_then_some}
 use Rattle.rz_isa.proofs.Types.{Form, RmRule, ImmKind, Row, Insn, Place, Fields}
 use Rattle.rz_isa.specs.declared.rows.Form.TheVariants as forms
-use Rattle.rz_isa.specs.declared.rows.RmRule.TheVariants as rules
-use Rattle.rz_isa.specs.declared.rows.ImmKind.TheVariants as imms
 use Rattle.rz_isa.specs.declared.instruction.Place.TheVariants as places
 use Rattle.rz_isa.specs.Spelling.{is_met, b_demand, bytes_of}
 use Rattle.rz_isa.specs.Fields.{rm_width, fields}

@@ -1,8 +1,8 @@
-use Rattle.std.proofs.Common.{ℕ, zero, suc, ℤ, ◌≡◌, ◌≢◌, ◌+◌, ◌-◌, ◌*◌, ◌/◌, ◌%◌, ◌^◌, ◌<◌, ◌-ℤ◌, refl, ◌∙◌, arith, length, true, ◌&&◌}
-use Rattle.std.specs.Prelude.{nat_lt, if◌then◌else◌}
+use Rattle.std.proofs.Common.{ℕ, zero, suc, ℤ, ◌≡◌, ◌≢◌, ◌/◌, ◌%◌, ◌<◌, refl, arith, length, true}
+use Rattle.std.specs.Prelude.{nat_lt}
 use Rattle.std.proofs.lemmas.Bool.Decides.{nat_tests}
 use Rattle.rz_num.specs.Bytes.{are_bytes}
-use Rattle.rz_isa.specs.Number.{numbers, signed}
+use Rattle.rz_isa.specs.Number.{signed}
 use Rattle.rz_isa.specs.Having.{is_disp}
 use Rattle.rz_isa.specs.Canonical.{little, low_32, mode_of, disp_bytes}
 

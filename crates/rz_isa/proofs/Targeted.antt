@@ -7,7 +7,6 @@ use Rattle.rz_flags.specs.Cond.{cond_of}
 use Rattle.rz_isa.specs.declared.rows.Letter.TheVariants as letters
 use Rattle.rz_isa.specs.declared.rows.Op.TheVariants as ops
 use Rattle.rz_isa.specs.declared.instruction.Insn.TheVariants as insns
-use Rattle.rz_isa.specs.declared.instruction.Place.TheVariants as places
 use Rattle.rz_isa.specs.Fields.{place_at, operand_at, reg_at, number_of, number_at, count_at, index_at, letter_width, rm_width, build_op}
 use Rattle.rz_isa.specs.Insn.{target_of, rip_of, rip_of_operand, first_some, rip_target_of}
 use Rattle.rz_isa.specs.Having.{has_width, has_reg, has_place}
