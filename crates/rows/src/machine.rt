@@ -9,7 +9,7 @@ use rz_machine::start::start;
 use rz_num::{Bytes, OutOfMemory};
 use rz_sys::event::Event;
 use rz_sys::input::Input;
-use rz_table::Early;
+use rz_table::Profile1;
 use std::alloc::{AllocError, Global};
 
 // The registers in the order of their numbers.
@@ -26,7 +26,7 @@ pub fn add_run(alloc: Global, to: &mut Bytes, file: &[u8], steps: u64) -> Result
         Err(ElfError::OutOfMemory) => return Err(Fault::OutOfMemory),
     };
     let mut machine = start(alloc, &elf, &Input::empty(alloc))?;
-    let outcome = machine.run::<Early>(alloc, steps)?;
+    let outcome = machine.run::<Profile1>(alloc, steps)?;
     for event in machine.world.events.as_slice() {
         add_event(alloc, to, event)?;
     }

@@ -1,5 +1,5 @@
 -- Members of sets of addresses, as more are added.
-use Rattle.std.proofs.Common.{◌≡◌, ◌⊎◌, ◌<◌, ℕ, zero, suc, Bool, true, false, ◌||◌, if◌then◌else◌, Some, List, [], ◌∷◌, ◌++◌, All, inl, inr, ⊎_elim, refl, sym, ap, ◌∙◌, subst, arith, length, get_or, slice_get, nat_eq, nat_lt, None, IfSome, eq-eqb, true≢false}
+use Rattle.std.proofs.Common.{◌≡◌, ◌⊎◌, ◌<◌, ℕ, zero, suc, Bool, true, false, ◌||◌, ◌==◌, if◌then◌else◌, Some, List, [], ◌∷◌, ◌++◌, All, inl, inr, ⊎_elim, refl, sym, ap, ◌∙◌, subst, arith, length, get_or, slice_get, nat_eq, nat_lt, None, IfSome, eq-eqb, true≢false}
 use Rattle.std.proofs.lemmas.Bool.{cases_lt, eqb-true, ltb-true}
 use Rattle.std.specs.List.{position, position_or_len}
 use Rattle.std.proofs.lemmas.List.Sums.{passes_at_first}
@@ -16,15 +16,15 @@ or_cases false q e = inr e
 
 -- what stands at a place is a member, and each member stands at a place
 pub has_at : (xs : List ℕ) (k a : ℕ) → slice_get xs k ≡ Some a → has xs a ≡ true
-has_at xs k a e = any_passes_from_place (nat_eq a) xs k a e (eq-eqb a a refl)
+has_at xs k a e = any_passes_from_place (λ y. y == a) xs k a e (eq-eqb a a refl)
 
 pub place_of : (xs : List ℕ) (a : ℕ) → has xs a ≡ true → (k : ℕ) × (slice_get xs k ≡ Some a)
 place_of [] a e = absurd (true≢false (sym e))
 place_of (x ∷ xs) a e =
     ⊎_elim
-    (λ here. (zero, ap Some (sym (eqb-true a x here))))
+    (λ here. (zero, ap Some (eqb-true x a here)))
     (λ later. let r = place_of xs a later in (suc r.0, r.1))
-    (or_cases (nat_eq a x) (has xs a) e)
+    (or_cases (x == a) (has xs a) e)
 
 -- the place that a search finds has the address
 pub found_at : (xs : List ℕ) (a : ℕ) → IfSome (position (nat_eq a) xs) (λ i. slice_get xs i ≡ Some a)
@@ -44,9 +44,9 @@ pub All_at : (P : ℕ → Type 0) (xs : List ℕ) (a : ℕ) → All P xs → has
 All_at P [] a h e = absurd (true≢false (sym e))
 All_at P (x ∷ xs) a h e =
     ⊎_elim
-    (λ here. subst P (sym (eqb-true a x here)) (All-head P x xs h))
+    (λ here. subst P (eqb-true x a here) (All-head P x xs h))
     (λ later. All_at P xs a (All-tail P x xs h) later)
-    (or_cases (nat_eq a x) (has xs a) e)
+    (or_cases (x == a) (has xs a) e)
 
 pub All_of : (P : ℕ → Type 0) (xs : List ℕ) → ((a : ℕ) → has xs a ≡ true → P a) → All P xs
 All_of P xs h k d lt = h (get_or xs k d) (has_at xs k (get_or xs k d) (slice_get-get_or xs k d lt))
@@ -72,14 +72,14 @@ module _ (xs : List ℕ) (x : ℕ) where
     where
       go : (v : Bool) → has xs x ≡ v → has (if v then xs else xs ++ x ∷ []) x ≡ true
       go true e = e
-      go false e = rw (list_any-append (nat_eq x) xs (x ∷ []), e, eq-eqb x x refl) refl
+      go false e = rw (list_any-append (λ y. y == x) xs (x ∷ []), e, eq-eqb x x refl) refl
 
   pub with_address-keeps : (b : ℕ) → has xs b ≡ true → has (with_address xs x) b ≡ true
   with_address-keeps b h = go (has xs x)
     where
       go : (v : Bool) → has (if v then xs else xs ++ x ∷ []) b ≡ true
       go true = h
-      go false = rw (list_any-append (nat_eq b) xs (x ∷ []), h) refl
+      go false = rw (list_any-append (λ y. y == b) xs (x ∷ []), h) refl
 
   pub with_address-only : (b : ℕ) → has (with_address xs x) b ≡ true → (has xs b ≡ true) ⊎ (b ≡ x)
   with_address-only b = go (has xs x)
@@ -88,8 +88,8 @@ module _ (xs : List ℕ) (x : ℕ) where
       go true h = inl h
       go false h =
           ⊎_elim inl
-          (λ new. ⊎_elim (λ e. inr (eqb-true b x e)) (λ none. absurd (true≢false (sym none))) (or_cases (nat_eq b x) false new))
-          (or_cases (has xs b) (nat_eq b x || false) (rw (list_any-append (nat_eq b) xs (x ∷ [])) at h))
+          (λ new. ⊎_elim (λ e. inr (sym (eqb-true x b e))) (λ none. absurd (true≢false (sym none))) (or_cases (x == b) false new))
+          (or_cases (has xs b) (x == b || false) (rw (list_any-append (λ y. y == b) xs (x ∷ [])) at h))
 
   pub with_address-at : (k a : ℕ) → slice_get xs k ≡ Some a → slice_get (with_address xs x) k ≡ Some a
   with_address-at k a h = go (has xs x)
@@ -112,16 +112,16 @@ pub has-with_addresses : (xs ys : List ℕ) (b : ℕ) → has ys b ≡ true → 
 has-with_addresses xs [] b h = absurd (true≢false (sym h))
 has-with_addresses xs (y ∷ ys) b h =
     ⊎_elim
-    (λ e. with_addresses-keeps (with_address xs y) ys b (subst (λ c. has (with_address xs y) c ≡ true) (sym (eqb-true b y e)) (has-with_address xs y)))
+    (λ e. with_addresses-keeps (with_address xs y) ys b (subst (λ c. has (with_address xs y) c ≡ true) (eqb-true y b e) (has-with_address xs y)))
     (λ later. has-with_addresses (with_address xs y) ys b later)
-    (or_cases (nat_eq b y) (has ys b) h)
+    (or_cases (y == b) (has ys b) h)
 
 pub with_addresses-only : (xs ys : List ℕ) (b : ℕ) → has (with_addresses xs ys) b ≡ true → (has xs b ≡ true) ⊎ (has ys b ≡ true)
 with_addresses-only xs [] b h = inl h
 with_addresses-only xs (y ∷ ys) b h =
     ⊎_elim
-    (λ old. ⊎_elim inl (λ e. inr (rw (eq-eqb b y e) refl)) (with_address-only xs y b old))
-    (λ new. inr (elim (nat_eq b y) as (λ v. (v || has ys b) ≡ true) [ true ↦ refl | false ↦ new ]))
+    (λ old. ⊎_elim inl (λ e. inr (rw (eq-eqb y b (sym e)) refl)) (with_address-only xs y b old))
+    (λ new. inr (elim (y == b) as (λ v. (v || has ys b) ≡ true) [ true ↦ refl | false ↦ new ]))
     (with_addresses-only (with_address xs y) ys b h)
 
 pub with_addresses-at : (xs ys : List ℕ) (k a : ℕ) → slice_get xs k ≡ Some a → slice_get (with_addresses xs ys) k ≡ Some a

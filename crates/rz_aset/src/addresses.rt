@@ -5,6 +5,7 @@ ghost use Rattle.std.specs.Ordering.{nat_cmp};
 ghost use Rattle.std.specs.List.{IsDistinct};
 ghost use Rattle.std.specs.List.Sorted.{IsPermutation};
 ghost use Rattle.rz_aset.specs.Sets.{AddsFront, has, with_address, with_addresses};
+ghost use Rattle.rz_aset.specs.Sorted.{sorted as sorted_of};
 
 use indexmap::IndexSet;
 use rz_num::{OutOfMemory, Words};
@@ -100,6 +101,7 @@ impl AddrSet {
     pub fn sorted(&self, alloc: Global) -> Result<Words, OutOfMemory>
         ensures ascending { IfOk result (IsSorted nat_cmp) }
         ensures same { IfOk result (IsPermutation self.now) }
+        ensures value { IfOk result (λ words. words ≡ sorted_of self.now) }
     {
         let mut words = Vec::from_slice(alloc, self.items.as_slice())?;
         words.sort_unstable();

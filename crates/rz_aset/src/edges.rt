@@ -4,6 +4,7 @@ ghost use Rattle.std.specs.Prelude.{◌≡◌, ◌<◌, ◌^◌, ℕ, [], not, l
 ghost use Rattle.std.specs.List.{IsDistinct};
 ghost use Rattle.std.specs.List.Sorted.{IsPermutation};
 ghost use Rattle.rz_aset.specs.Sets.{edge_cmp, has_edge, is_same_edge, with_edge};
+ghost use Rattle.rz_aset.specs.Sorted.{sorted_edges};
 
 use indexmap::IndexSet;
 use rz_num::{OutOfMemory, Pairs};
@@ -79,6 +80,7 @@ impl EdgeSet {
     pub fn sorted(&self, alloc: Global) -> Result<Pairs, OutOfMemory>
         ensures ascending { IfOk result (IsSorted edge_cmp) }
         ensures same { IfOk result (IsPermutation self.now) }
+        ensures value { IfOk result (λ pairs. pairs ≡ sorted_edges self.now) }
     {
         let mut pairs = Vec::from_slice(alloc, self.items.as_slice())?;
         pairs.sort_unstable();

@@ -9,7 +9,7 @@ use Rattle.rz_machine.specs.State.{after}
 use Rattle.rz_input.specs.Value.{input_of}
 use Rattle.rz_core.specs.declared.status.Status.{Status}
 use Rattle.rz_core.specs.declared.status.Status.TheVariants as status
-use Rattle.rz_core.specs.Decoding.{decode_early}
+use Rattle.rz_core.specs.Decoding.{decode_profile}
 use Rattle.rz_core.specs.Words.{Debloat, Run, Form, Debloating, Checking, Disassembling, Generating, Running}
 use Rattle.rz_core.specs.Inputs.{HoldInputs}
 use Rattle.rz_core.specs.Reading.{wanted_inputs, wanted_program, HoldAll}
@@ -27,7 +27,7 @@ use Rattle.rz_core.proofs.ExactLaws.{one_value, not_both, EndsOnce, exactly}
 left_once : (limit : ℕ) (x : List ℕ) (k : ℕ) (inputs : List Input) (n a m b : ℕ) → LeavesFirst limit x k inputs n a → LeavesFirst limit x k inputs m b → status.LeftCode n a ≡ status.LeftCode m b
 left_once limit x k [] n a m b g h = absurd g
 left_once limit x k (i ∷ is) n a m b g h =
-    let o : Option ℕ = left_at (after decode_early limit (traced x i)).end in
+    let o : Option ℕ = left_at (after decode_profile limit (traced x i)).end in
     ⊎_elim
     (λ p. ⊎_elim (λ q. ap₂ (λ c d. status.LeftCode c d) (p.0 ∙ sym q.0) (one_value o a b p.1 q.1)) (λ q. absurd (not_both o a p.1 q.0)) h)
     (λ p. ⊎_elim (λ q. absurd (not_both o b q.1 p.0)) (λ q. left_once limit x (suc k) is n a m b p.1 q.1) h) g
@@ -35,7 +35,7 @@ left_once limit x k (i ∷ is) n a m b g h =
 stay_not_left : (limit : ℕ) (x : List ℕ) (k : ℕ) (inputs : List Input) (n a : ℕ) → AllStay limit x inputs → LeavesFirst limit x k inputs n a → ⊥
 stay_not_left limit x k [] n a all h = h
 stay_not_left limit x k (i ∷ is) n a all h =
-    ⊎_elim (λ p. not_both (left_at (after decode_early limit (traced x i)).end) a p.1 all.0) (λ p. stay_not_left limit x (suc k) is n a all.1 p.1) h
+    ⊎_elim (λ p. not_both (left_at (after decode_profile limit (traced x i)).end) a p.1 all.0) (λ p. stay_not_left limit x (suc k) is n a all.1 p.1) h
 
 -- debloating ends in one way
 module _ (limit : ℕ) (x : List ℕ) (inputs : List Input) where

@@ -14,7 +14,7 @@ use Rattle.rz_machine.specs.Nodes.{code_in, StandsIn}
 use Rattle.rz_machine.proofs.SetLaws.{has_edge-with_edges}
 use Rattle.rz_machine.proofs.RecordedLaws.{HasRun, run_no_cut, ended_no_cut, with_run_has, nothing_stands}
 use Rattle.rz_rewrite.specs.Rewritten.{CanRewrite}
-use Rattle.rz_core.specs.Decoding.{decode_early}
+use Rattle.rz_core.specs.Decoding.{decode_profile}
 use Rattle.rz_core.specs.declared.status.Status.{Status}
 use Rattle.rz_core.specs.declared.status.Status.TheVariants as status
 use Rattle.rz_core.specs.Debloated.{traced, kept_of, AllStay, LeavesFirst}
@@ -26,42 +26,42 @@ nothing = record { nodes = []; edges = [] }
 
 module _ (limit : ℕ) (x : List ℕ) where
   abbrev with_input : Kept → Input → Kept
-  with_input kept input = with_run decode_early limit (traced x input) kept
+  with_input kept input = with_run decode_profile limit (traced x input) kept
 
   -- the record grows with each run
   grows : (inputs : List Input) (kept : Kept) (a b : ℕ) → has_edge kept.edges a b ≡ true → has_edge (fold with_input kept inputs).edges a b ≡ true
   unfolding with_run
   grows [] kept a b h = h
   grows (i ∷ is) kept a b h =
-      let run = neighbours (begun decode_early limit (traced x i)) in
+      let run = neighbours (begun decode_profile limit (traced x i)) in
       grows is (with_input kept i) a b (has_edge-with_edges kept.edges run a b ∙ or_left (has_edge kept.edges a b) (has_edge run a b) h)
 
   -- a set of edges that has those of a run cuts it nowhere
-  uncut_by : (input : Input) (edges : Edges) → StaysInCode decode_early limit (traced x input) → HasRun decode_early limit (traced x input) edges → IsUncut decode_early edges (traced x input) limit
+  uncut_by : (input : Input) (edges : Edges) → StaysInCode decode_profile limit (traced x input) → HasRun decode_profile limit (traced x input) edges → IsUncut decode_profile edges (traced x input) limit
   uncut_by input edges stays has =
       record {
-        before = run_no_cut decode_early limit (traced x input) edges stays has;
-        ended = λ why e. ended_no_cut decode_early limit (traced x input) edges why e stays has;
+        before = run_no_cut decode_profile limit (traced x input) edges stays has;
+        ended = λ why e. ended_no_cut decode_profile limit (traced x input) edges why e stays has;
       }
 
-  uncut_from : (inputs : List Input) (kept : Kept) → AllStay limit x inputs → AllByRecursion (λ input. IsUncut decode_early (fold with_input kept inputs).edges (traced x input) limit) inputs
+  uncut_from : (inputs : List Input) (kept : Kept) → AllStay limit x inputs → AllByRecursion (λ input. IsUncut decode_profile (fold with_input kept inputs).edges (traced x input) limit) inputs
   uncut_from [] kept all = tt
   uncut_from (i ∷ is) kept all = (
-    uncut_by i (fold with_input (with_input kept i) is).edges all.0 (λ a b h. grows is (with_input kept i) a b (with_run_has decode_early limit (traced x i) kept a b h)),
+    uncut_by i (fold with_input (with_input kept i) is).edges all.0 (λ a b h. grows is (with_input kept i) a b (with_run_has decode_profile limit (traced x i) kept a b h)),
     uncut_from is (with_input kept i) all.1,
   )
 
   -- so the union of runs that stay in the code cuts none of them
-  pub all_uncut : (inputs : List Input) → AllStay limit x inputs → AllByRecursion (λ input. IsUncut decode_early (kept_of limit x inputs).edges (traced x input) limit) inputs
+  pub all_uncut : (inputs : List Input) → AllStay limit x inputs → AllByRecursion (λ input. IsUncut decode_profile (kept_of limit x inputs).edges (traced x input) limit) inputs
   all_uncut inputs all = uncut_from inputs nothing all
 
   -- the runs on the first k inputs stayed in the code and are recorded, and the rest is to come
   pub record Unites (k : ℕ) (rest inputs : List Input) (kept : Kept) : Type 0 where
-    pub union : fold (λ kept input. with_run decode_early limit (traced x input) kept) kept rest ≡ kept_of limit x inputs
+    pub union : fold (λ kept input. with_run decode_profile limit (traced x input) kept) kept rest ≡ kept_of limit x inputs
     pub stay : AllStay limit x rest → AllStay limit x inputs
     pub leaves : (n a : ℕ) → LeavesFirst limit x (suc k) rest n a → LeavesFirst limit x 1 inputs n a
-    pub stands : StandsIn decode_early (code_in (image_of x).loads) kept
-    pub plausible : 1 ≤ k → CanRewrite decode_early (image_of x) kept
+    pub stands : StandsIn decode_profile (code_in (image_of x).loads) kept
+    pub plausible : 1 ≤ k → CanRewrite decode_profile (image_of x) kept
 
   pub unites_none : (inputs : List Input) (kept : Kept) → kept ≡ nothing → Unites 0 inputs inputs kept
   unites_none inputs kept e =
@@ -69,7 +69,7 @@ module _ (limit : ℕ) (x : List ℕ) where
         union = ap (λ (k : Kept). fold with_input k inputs) e;
         stay = λ h. h;
         leaves = λ n a h. h;
-        stands = subst (StandsIn decode_early (code_in (image_of x).loads)) (sym e) (nothing_stands decode_early (code_in (image_of x).loads));
+        stands = subst (StandsIn decode_profile (code_in (image_of x).loads)) (sym e) (nothing_stands decode_profile (code_in (image_of x).loads));
         plausible = λ some. absurd (omega (arith, some));
       }
 
@@ -77,13 +77,13 @@ module _ (limit : ℕ) (x : List ℕ) where
     pub splits : drop k inputs ≡ input ∷ drop (k + 1) inputs
     splits = rw (add-one, drop-cons inputs k input inside) (ap (λ (e : Input). e ∷ drop (suc k) inputs) (sym is))
 
-    pub unites_more : (old new : Kept) → Unites k (drop k inputs) inputs old → new ≡ with_run decode_early limit (traced x input) old
-        → StaysInCode decode_early limit (traced x input)
-        → (StandsIn decode_early (code_in (image_of x).loads) old → CanRewrite decode_early (image_of x) new)
+    pub unites_more : (old new : Kept) → Unites k (drop k inputs) inputs old → new ≡ with_run decode_profile limit (traced x input) old
+        → StaysInCode decode_profile limit (traced x input)
+        → (StandsIn decode_profile (code_in (image_of x).loads) old → CanRewrite decode_profile (image_of x) new)
         → Unites (k + 1) (drop (k + 1) inputs) inputs new
     unites_more old new so added stays can =
         let before : Unites k (input ∷ drop (k + 1) inputs) inputs old = subst (λ (l : List Input). Unites k l inputs old) splits so in
-        let able : CanRewrite decode_early (image_of x) new = can before.stands in
+        let able : CanRewrite decode_profile (image_of x) new = can before.stands in
         record {
           union = ap (λ (r : Kept). fold with_input r (drop (k + 1) inputs)) added ∙ before.union;
           stay = λ rest. before.stay (stays, rest);

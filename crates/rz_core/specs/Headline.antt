@@ -4,7 +4,7 @@ use Rattle.std.specs.List.{AllByRecursion}
 use Rattle.rz_outside.specs.StoreAnswers.{Files}
 use Rattle.rz_outside.specs.StoreCalls.{StoreCalls}
 use Rattle.rz_sys.specs.declared.input.Input.{Input}
-use Rattle.rz_core.specs.Decoding.{decode_early}
+use Rattle.rz_core.specs.Decoding.{decode_profile}
 use Rattle.rz_machine.specs.Keeps.{Keeps}
 use Rattle.rz_machine.specs.Recorded.{IsUncut}
 use Rattle.rz_machine.specs.WrittenFile.{Inert}
@@ -23,11 +23,11 @@ pub record HoldsHeadline (d : Debloat) (old new : Files) : Type 0 where
   pub inputs_are : HoldInputs (λ name bytes. old name ≡ Some bytes) d.inputs inputs
   pub out : new d.out ≡ Some w
   -- w follows each run of x, up to the first edge that isn't kept, and stops there at its stub
-  pub keeps : Keeps decode_early x w (kept_of d.limit x inputs)
+  pub keeps : Keeps decode_profile x w (kept_of d.limit x inputs)
   -- w is the written file of x, accepted, and loads what it should and no more
-  pub inert : Inert decode_early x w (kept_of d.limit x inputs)
+  pub inert : Inert decode_profile x w (kept_of d.limit x inputs)
   -- the traced runs themselves take no such edge before they ended or their limit came
-  pub uncut : AllByRecursion (λ input. IsUncut decode_early (kept_of d.limit x inputs).edges (traced x input) d.limit) inputs
+  pub uncut : AllByRecursion (λ input. IsUncut decode_profile (kept_of d.limit x inputs).edges (traced x input) d.limit) inputs
 
 -- where `debloat` was answered Ok and the store tells its files
 abbrev pub HeadlineOf : Option Form → StoreCalls → Status → Type 0

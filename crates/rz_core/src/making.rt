@@ -10,20 +10,23 @@ ghost use Rattle.rz_rewrite.specs.Rewritten.{CanRewrite};
 ghost use Rattle.rz_machine.specs.Traced.{kept_in, with_run};
 ghost use Rattle.rz_sys.specs.Input.{IsValid};
 ghost use Rattle.rz_machine.specs.WrittenFile.{Inert};
-ghost use Rattle.rz_core.specs.Decoding.{decode_early};
-ghost use Rattle.rz_core.specs.Debloated.{AllStay, IsDebloated, kept_of, traced, report_of};
+ghost use Rattle.rz_core.specs.Decoding.{decode_profile};
+ghost use Rattle.rz_core.specs.Debloated.{AllStay, IsDebloated, kept_of, traced, report_of, report_with};
 ghost use Rattle.rz_rewrite.specs.Refusals.{IsRefusal, no_room_for, rip_reach_of};
-ghost use Rattle.rz_core.specs.Calls.Making.{MakeRefusal, RunRefusal, plain_report};
-ghost use Rattle.rz_core.specs.Texts.{report_text};
+ghost use Rattle.rz_machine.specs.Added.{added as added_of};
+ghost use Rattle.rz_core.specs.Calls.Making.{MakeRefusal, RunRefusal};
 
 use crate::status::Status;
 use crate::texts;
+use rz_aset::Record;
 use rz_elf::elf::Elf;
-use rz_machine::trace::{Record, TraceRefusal, trace};
 use rz_num::{Bytes, OutOfMemory, are_bytes};
-use rz_rewrite::rewrite::{New, Refusal, rewrite};
+use rz_rewrite::nodes::{site_count, site_edge_count};
+use rz_rewrite::refusal::Refusal;
+use rz_rewrite::rewrite::{New, rewrite};
 use rz_sys::input::Input;
-use rz_table::Early;
+use rz_table::Profile1;
+use rz_trace::{TraceRefusal, trace};
 use std::alloc::Global;
 
 /// A new file, and the report of it.
@@ -59,7 +62,7 @@ fn record_runs(alloc: Global, elf: &Elf, inputs: &[Input], limit: u64) -> Result
     requires some { 1 ≤ limit }
     ensures kept { IfOk result (λ kept. kept_in kept ≡ kept_of limit elf.now.bytes inputs.now) }
     ensures plausible { IfOk result (λ kept.
-        CanRewrite decode_early (image_of elf.now.bytes) (kept_in kept)) }
+        CanRewrite decode_profile (image_of elf.now.bytes) (kept_in kept)) }
     ensures stay { OnOk result (AllStay limit elf.now.bytes inputs.now) }
     ensures err { IfErr result (MakeRefusal limit elf.now.bytes inputs.now) }
 {
@@ -82,15 +85,15 @@ fn record_run(
     requires input { IsValid input.now }
     requires some { 1 ≤ limit }
     ensures added { OnOk result (kept_in kept.new
-        ≡ with_run decode_early limit (traced elf.now.bytes input.now) (kept_in kept.old)) }
+        ≡ with_run decode_profile limit (traced elf.now.bytes input.now) (kept_in kept.old)) }
     ensures plausible { OnOk result
-        (StandsIn decode_early (code_in (image_of elf.now.bytes).loads) (kept_in kept.old)
-        → CanRewrite decode_early (image_of elf.now.bytes) (kept_in kept.new)) }
-    ensures stays { OnOk result (StaysInCode decode_early limit (traced elf.now.bytes input.now)) }
+        (StandsIn decode_profile (code_in (image_of elf.now.bytes).loads) (kept_in kept.old)
+        → CanRewrite decode_profile (image_of elf.now.bytes) (kept_in kept.new)) }
+    ensures stays { OnOk result (StaysInCode decode_profile limit (traced elf.now.bytes input.now)) }
     ensures err { IfErr result (RunRefusal number limit elf.now.bytes input.now) }
 {
     are_bytes(elf.bytes.as_slice());
-    match trace::<Early>(alloc, elf, input, limit, kept) {
+    match trace::<Profile1>(alloc, elf, input, limit, kept) {
         Ok(()) => Ok(()),
         Err(TraceRefusal::LeftCode(address)) => Err(Status::LeftCode {
             input: number,
@@ -102,31 +105,31 @@ fn record_run(
 
 // The new file of a file for what is kept, and the report of it.
 fn write_new(alloc: Global, elf: &Elf, kept: &Record) -> Result<Made, Refusal>
-    requires plausible { CanRewrite decode_early (image_of elf.now.bytes) (kept_in kept.now) }
-    ensures keeps { IfOk result (λ m. Keeps decode_early elf.now.bytes m.bytes (kept_in kept.now)) }
-    ensures inert { IfOk result (λ m. Inert decode_early elf.now.bytes m.bytes (kept_in kept.now)) }
-    ensures report { IfOk result (λ m.
-        m.report ≡ plain_report (image_of elf.now.bytes) (kept_in kept.now)) }
-    ensures reach { OnOk result (rip_reach_of decode_early elf.now.bytes (kept_in kept.now) ≡ None) }
-    ensures room { OnOk result (no_room_for decode_early elf.now.bytes (kept_in kept.now) ≡ None) }
-    ensures refused { IfErr result (IsRefusal decode_early elf.now.bytes (kept_in kept.now)) }
+    requires plausible { CanRewrite decode_profile (image_of elf.now.bytes) (kept_in kept.now) }
+    ensures keeps { IfOk result (λ m. Keeps decode_profile elf.now.bytes m.bytes (kept_in kept.now)) }
+    ensures inert { IfOk result (λ m. Inert decode_profile elf.now.bytes m.bytes (kept_in kept.now)) }
+    ensures report { IfOk result (λ m. m.report
+        ≡ report_with (image_of elf.now.bytes) (kept_in kept.now)) }
+    ensures reach { OnOk result (rip_reach_of decode_profile elf.now.bytes (kept_in kept.now) ≡ None) }
+    ensures room { OnOk result (no_room_for decode_profile elf.now.bytes (kept_in kept.now) ≡ None) }
+    ensures refused { IfErr result (IsRefusal decode_profile elf.now.bytes (kept_in kept.now)) }
 {
-    let New { bytes, base } = rewrite::<Early>(alloc, elf, kept)?;
-    let edges = kept.edges.len() as u64;
-    let instructions = kept.nodes.len() as u64;
-    let report = report_bytes(alloc, base, edges, instructions)?;
+    let New { bytes, base, .. } = rewrite::<Profile1>(alloc, elf, kept)?;
+    let report = report_bytes(alloc, elf, kept, base)?;
     Ok(Made { bytes, report })
 }
 
-// The report, where no site is kept.
-fn report_bytes(
-    alloc: Global,
-    added: u64,
-    edges: u64,
-    instructions: u64,
-) -> Result<Bytes, OutOfMemory>
-    ensures { IfOk result (λ bytes. bytes ≡ report_text added edges instructions 0 0) }
+// The report of what is kept of a file, whose new file has its added range from this address on.
+fn report_bytes(alloc: Global, elf: &Elf, kept: &Record, base: u64) -> Result<Bytes, OutOfMemory>
+    requires { base ≡ (added_of decode_profile (image_of elf.now.bytes) (kept_in kept.now)).scratch }
+    ensures { IfOk result (λ bytes. bytes ≡ report_with (image_of elf.now.bytes) (kept_in kept.now)) }
 {
-    let text = texts::report(alloc, added, edges, instructions, 0, 0)?;
+    let nodes = kept.nodes.sorted(alloc)?;
+    let edges = kept.edges.sorted(alloc)?;
+    let sites = site_count::<Profile1>(elf, nodes.as_slice());
+    let site_edges = site_edge_count::<Profile1>(elf, edges.as_slice());
+    let instructions = kept.nodes.len() as u64;
+    let edge_count = kept.edges.len() as u64;
+    let text = texts::report(alloc, base, edge_count, instructions, site_edges, sites)?;
     Bytes::from_slice(alloc, text.as_bytes())
 }

@@ -13,8 +13,8 @@ has-neighbours_out [] a b = refl
 has-neighbours_out (e ∷ edges) a b =
     let rest = has-neighbours_out edges a b in
     elim (cases_eq e.0 a) [
-      | inl same ↦ rw (eq-eqb e.0 a same, eq-eqb a e.0 (sym same), rest) refl
-      | inr ne ↦ rw (ne_eqb e.0 a ne, ne_eqb a e.0 (λ same. ne (sym same)), rest) refl
+      | inl same ↦ rw (eq-eqb e.0 a same, rest) refl
+      | inr ne ↦ rw (ne_eqb e.0 a ne, rest) refl
     ]
 
 and_true : (p : Bool) → (p && true) ≡ p
@@ -30,8 +30,8 @@ has-neighbours_in [] a b = refl
 has-neighbours_in (e ∷ edges) a b =
     let rest = has-neighbours_in edges a b in
     elim (cases_eq e.1 b) [
-      | inl same ↦ rw (eq-eqb e.1 b same, eq-eqb b e.1 (sym same), rest, and_true (nat_eq a e.0)) refl
-      | inr ne ↦ rw (ne_eqb e.1 b ne, ne_eqb b e.1 (λ same. ne (sym same)), rest, and_false (nat_eq a e.0)) refl
+      | inl same ↦ rw (eq-eqb e.1 b same, rest, and_true (nat_eq e.0 a)) refl
+      | inr ne ↦ rw (ne_eqb e.1 b ne, rest, and_false (nat_eq e.0 a)) refl
     ]
 
 -- an edge more at the end of a walk

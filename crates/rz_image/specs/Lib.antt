@@ -2,5 +2,6 @@ pub mod Perm
 pub mod Memory
 pub mod Run
 pub mod Word
+pub mod Apart
 pub mod Calls
 pub mod Laws

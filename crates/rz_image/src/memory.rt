@@ -2,6 +2,7 @@
 
 ghost use Rattle.std.specs.Prelude.{◌≡◌, ◌+◌, ◌^◌, ◌<◌, ◌≤◌, length, take, nat_le, false, IsTrue, IfOk, IfErr, OnOk, OnErr, Some, None};
 ghost use Rattle.rz_image.specs.Memory.{Ascend, bytes_at, bytes_in, fetch as fetch_at, is_allowed, is_readable, is_writable, put_bytes, refused, reopened, set_open as opened_to};
+ghost use Rattle.rz_image.specs.Apart.{are_apart as are_apart_of, is_apart as is_apart_of};
 ghost use Rattle.rz_image.specs.Word.{put_word, refused_word, word_at};
 
 use crate::access::Access;
@@ -113,6 +114,13 @@ impl Memory {
         is_within(at, len) && all_allow(self.regions.as_slice(), at, len, Access::Write)
     }
 
+    /// Whether no region may be both written and executed.
+    pub fn are_apart(&self) -> bool
+        ensures { result ≡ are_apart_of self.now }
+    {
+        self.regions.iter().all(|region| is_apart(region))
+    }
+
     /// Opens the region of a number, from 0, up to `opened` bytes. The bytes that it closes become zero.
     pub fn set_open(&mut self, region: u32, opened: u64)
         requires there { region < length self.old }
@@ -136,6 +144,13 @@ fn is_within(at: u64, len: u64) -> bool
     ensures { result ≡ nat_le (at + len) (2 ^ 64) }
 {
     len == 0 || at <= u64::MAX - (len - 1)
+}
+
+// Whether a region may not be both written and executed.
+fn is_apart(region: &Region) -> bool
+    ensures { result ≡ is_apart_of region.now }
+{
+    !(region.perm.writes() && region.perm.executes())
 }
 
 // Opens a region up to `opened` bytes, and makes the bytes that it closes zero.

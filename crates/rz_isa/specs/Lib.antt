@@ -20,3 +20,4 @@ pub mod Nodes
 pub mod Items
 pub mod Plan
 pub mod Within
+pub mod Sizes

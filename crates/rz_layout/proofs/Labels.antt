@@ -15,7 +15,8 @@ use Rattle.rz_isa.specs.declared.fragment_list.Fragment.{Fragment}
 use Rattle.rz_isa.specs.declared.fragment_list.Fragments.{Fragments}
 use Rattle.rz_isa.specs.Items.{list_slots, slots_from, slots, item_count, first_number, fragment_number, label_number}
 use Rattle.rz_layout.specs.Layout.{nodes_of}
-use Rattle.rz_layout.specs.Calls.Ordered.{index_of, starts_from, IsOrderOf, number_in, number_or_first, jump_piece, item_piece, slot_piece, ordered_piece, pieces_of}
+use Rattle.rz_layout.specs.Order.{index_of, starts_from, IsOrderOf, number_in}
+use Rattle.rz_layout.specs.Calls.Ordered.{number_or_first, jump_piece, item_piece, slot_piece, ordered_piece, pieces_of}
 use Rattle.rz_layout.specs.declared.piece.Piece.{Piece}
 use Rattle.rz_layout.specs.declared.order.Order.{Order}
 use Rattle.rz_layout.proofs.Ordered.{slot_of, length-list_slots, length-slots_from}

@@ -8,3 +8,4 @@ pub mod Spelled
 pub mod Planned
 pub mod LeastPlans
 pub mod Worked
+pub mod NearPlans

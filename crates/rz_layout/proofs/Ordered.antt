@@ -6,7 +6,7 @@ use Rattle.rz_isa.specs.declared.item_list.Slot.{Slot}
 use Rattle.rz_isa.specs.declared.fragment_list.Fragment.{Fragment}
 use Rattle.rz_isa.specs.Items.{list_slots, slots_from, item_count}
 use Rattle.rz_layout.specs.Layout.{nodes_of}
-use Rattle.rz_layout.specs.Calls.Ordered.{starts_from}
+use Rattle.rz_layout.specs.Order.{starts_from}
 
 -- an item of a list between two numbers
 abbrev pub slot_of : ℕ → ℕ → Item → Slot

@@ -25,7 +25,8 @@ use Rattle.rz_isa.specs.Plan.{is_inner, near_len, jump_len, item_len, spelled_le
 use Rattle.rz_encode.specs.Length.{SameLengths}
 use Rattle.rz_layout.specs.declared.piece.Piece.{Piece}
 use Rattle.rz_layout.specs.declared.piece.Piece.TheVariants.{Fixed, Jump}
-use Rattle.rz_layout.specs.Layout.{all_near, is_code, CanMove, AreLow, form_of, number_of, ArePlaces}
+use Rattle.rz_isa.specs.Sizes.{is_code, CanMove}
+use Rattle.rz_layout.specs.Layout.{all_near, AreLow, form_of, number_of, ArePlaces}
 use Rattle.rz_layout.specs.Calls.Pieces.{piece_at, piece_offset, len_of, MayBeShortAt, IsPiecePlan, IsLeastForms, ArePlaces as ArePiecePlaces}
 use Rattle.rz_layout.specs.Calls.Ordered.{number_or_first, jump_piece, item_piece, pieces_of, IsChosen, IsChosenItem}
 use Rattle.rz_layout.proofs.Offsets.{offset_more, offset_up, offset_down, reaches_two, may_be_short, short_reaches, fixed_not_short}

@@ -6,7 +6,7 @@ use Rattle.std.specs.Ordering.{nat_cmp}
 use Rattle.std.proofs.lemmas.Bool.Decides.{nat_tests}
 use Rattle.std.proofs.lemmas.List.Sorted.{searched}
 use Rattle.rz_layout.specs.Layout.{IsAscending}
-use Rattle.rz_layout.specs.Calls.Ordered.{index_of}
+use Rattle.rz_layout.specs.Order.{index_of}
 
 -- what holds of each number of a list holds of the one at a place
 pub all_at : (P : ℕ → Type 0) (xs : List ℕ) (i : ℕ) → AllByRecursion P xs → i < length xs → P (get_or xs i 0)

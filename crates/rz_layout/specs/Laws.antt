@@ -1,10 +1,16 @@
--- Laws of plans.
+-- Laws of plans and of the order of items.
 use Rattle.std.specs.Prelude.{◌≡◌, ℕ, ◌≤◌, List}
 use Rattle.rz_isa.specs.declared.rows.Row.{Row}
 use Rattle.rz_isa.specs.declared.rows.Form.{Form}
 use Rattle.rz_isa.specs.declared.item_list.Item.{Item}
+use Rattle.rz_isa.specs.declared.item_list.Label.{Label}
+use Rattle.rz_isa.specs.declared.item_list.Slot.{Slot}
 use Rattle.rz_isa.specs.declared.fragment_list.Fragments.{Fragments}
+use Rattle.rz_isa.specs.Items.{label_number}
 use Rattle.rz_isa.specs.Plan.{form_at, item_len, place, IsPlan, IsLeastPlan}
+use Rattle.rz_layout.specs.declared.order.Order.{Order}
+use Rattle.rz_layout.specs.Order.{IsOrderOf, number_in}
+use Rattle.rz_layout.specs.NearPlan.{CanStand, StandsNear}
 
 -- two least plans are the same
 abbrev pub LeastPlansAreOne : Type 0
@@ -23,3 +29,15 @@ LeastIsShortest =
     (rows : List Row) (frags : Fragments) (base : ℕ) (forms other : List Form)
     → IsLeastPlan rows frags base forms → IsPlan rows frags base other
     → IsNoShorter rows frags base forms other
+
+-- in the order of fragments' items a label has the number that it has in the fragments
+abbrev pub OrderNumbers : Type 0
+OrderNumbers =
+    (frags : Fragments) (order : Order) (s : Slot) (to : Label)
+    → IsOrderOf frags order → number_in order s to ≡ label_number frags s to
+
+-- sized fragments can be laid out with each item near
+abbrev pub SizedStandNear : Type 0
+SizedStandNear =
+    (rows : List Row) (frags : Fragments) (base : ℕ) (most : ℕ → ℕ)
+    → CanStand rows frags base most → StandsNear rows frags base most

@@ -1,19 +1,13 @@
 -- What can be laid out, and what a layout says.
-use Rattle.std.specs.Prelude.{◌≡◌, ℕ, ◌^◌, ◌<◌, ◌==◌, Bool, true, false, List, [], ◌∷◌, length, map, replicate, None, IsTrue, All, slice_index, if◌then◌else◌}
+use Rattle.std.specs.Prelude.{◌≡◌, ℕ, ◌^◌, ◌<◌, ◌==◌, List, [], ◌∷◌, length, map, replicate, All, slice_index, if◌then◌else◌}
 use Rattle.std.specs.List.{AllByRecursion}
 use Rattle.rz_isa.specs.declared.rows.Row.{Row}
 use Rattle.rz_isa.specs.declared.rows.Form.{Form}
 use Rattle.rz_isa.specs.declared.rows.Form.TheVariants.{Near, Short}
-use Rattle.rz_isa.specs.declared.item_list.Label.{Label}
-use Rattle.rz_isa.specs.declared.item_list.Label.TheVariants as label
-use Rattle.rz_isa.specs.declared.item_list.Item.{Item}
-use Rattle.rz_isa.specs.declared.item_list.Item.TheVariants as item
 use Rattle.rz_isa.specs.declared.fragment_list.Fragment.{Fragment}
 use Rattle.rz_isa.specs.declared.fragment_list.Fragments.{Fragments}
-use Rattle.rz_isa.specs.Insn.{target_of}
-use Rattle.rz_isa.specs.Targets.{NamesLow}
 use Rattle.rz_isa.specs.Items.{Places, slots}
-use Rattle.rz_isa.specs.Plan.{place, is_inner}
+use Rattle.rz_isa.specs.Plan.{place}
 use Rattle.rz_layout.specs.declared.plan.Layout.{Layout}
 
 -- ---- what can be laid out
@@ -30,19 +24,6 @@ nodes_of list = map (λ f. f.at) list
 -- each item in the form Near
 abbrev pub all_near : Fragments → List Form
 all_near frags = replicate (length (slots frags)) Near
-
--- a label in the code or of a stub
-abbrev pub is_code : Label → Bool
-is_code (label.Table a) = false
-is_code to = true
-
--- an instruction has no direct target, and what it names relative to RIP is low;
--- a jump leads into the code or to a stub, JRCXZ into the code
-abbrev pub CanMove : Item → Type 0
-CanMove (item.Whole x) = (target_of x ≡ None) × NamesLow x
-CanMove (item.Jump cond to) = IsTrue (is_code to)
-CanMove (item.Jrcxz to) = IsTrue (is_code to) × IsTrue (is_inner to)
-CanMove (item.Store a to) = Unit {0}
 
 abbrev pub AreLow : List (ℕ × ℕ) → Type 0
 AreLow pairs = All (λ p. p.1 < 2 ^ 31) pairs

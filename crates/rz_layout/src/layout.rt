@@ -3,7 +3,8 @@
 ghost use Rattle.std.specs.Prelude.{◌≡◌, ◌^◌, ◌<◌, ◌≤◌, map, All, IfOk};
 ghost use Rattle.rz_isa.specs.Items.{slots};
 ghost use Rattle.rz_isa.specs.Plan.{code_end, IsPlan, IsLeastPlan};
-ghost use Rattle.rz_layout.specs.Layout.{all_near, nodes_of, number_of, forms_of, IsAscending, CanMove, AreLow, ArePlaces};
+ghost use Rattle.rz_layout.specs.Layout.{all_near, nodes_of, number_of, forms_of, IsAscending, AreLow, ArePlaces};
+ghost use Rattle.rz_isa.specs.Sizes.{CanMove};
 
 use crate::pieces::pieces_of;
 use crate::plan::Layout;

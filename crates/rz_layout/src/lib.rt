@@ -7,7 +7,7 @@ mod example;
 mod fit;
 pub mod laws;
 pub mod layout;
-mod order;
+pub mod order;
 mod piece;
 mod pieces;
 pub mod plan;

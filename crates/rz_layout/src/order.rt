@@ -3,7 +3,7 @@
 ghost use Rattle.std.specs.Prelude.{◌≡◌, ◌++◌, length, slice_index_or, Some, None, IfOk, OnOk, ◌+◌, nat_le, if◌then◌else◌};
 ghost use Rattle.rz_isa.specs.Items.{list_slots, first_number as first_number_of};
 ghost use Rattle.rz_layout.specs.Layout.{IsAscending};
-ghost use Rattle.rz_layout.specs.Calls.Ordered.{appended, index_of, number_in, IsOrderOf};
+ghost use Rattle.rz_layout.specs.Order.{appended, index_of, number_in, IsOrderOf};
 
 use rz_isa::{Fragments, Item, Label, Slot};
 use rz_num::OutOfMemory;

@@ -6,7 +6,7 @@ use crate::piece::Piece;
 use crate::sizes::{least_forms, places_of};
 use rz_isa::Form;
 use rz_num::{OutOfMemory, Words};
-use rz_table::Early;
+use rz_table::Profile1;
 use std::alloc::Global;
 use std::process::Abort;
 use std::test::Fail;
@@ -111,7 +111,7 @@ fn many_pieces(rt: HostRuntime) -> Result<(), Fail> {
 
 #[test]
 fn jumps_to_each_other_are_short(rt: HostRuntime) -> Result<(), Fail> {
-    let laid = laid_out::<Early>(rt.alloc())?;
+    let laid = laid_out::<Profile1>(rt.alloc())?;
     assert_eq!(rt; laid.places.as_slice().first().copied(), Some(0x10000));
     assert_eq!(rt; laid.places.as_slice().last().copied(), Some(0x10002));
     assert_eq!(rt; laid.forms.as_slice().first().copied(), Some(1));

@@ -10,6 +10,7 @@ use Rattle.rz_sys.specs.Heap.{HasHeap, open_at}
 use Rattle.rz_sys.specs.Laws.Heap.{StandsOpen, in_heap, heap_cell, opened_cell, cell_opened, heap_executes}
 use Rattle.rz_isa.specs.Nodes.{Decoder}
 use Rattle.rz_machine.specs.State.{step, after}
+use Rattle.rz_machine.specs.Simulates.{HasCode}
 use Rattle.rz_image.specs.Laws.Puts.{set_byte, cell_at-put_same, cell_at-put_other}
 use Rattle.rz_image.specs.Laws.Alike.{StandsPut}
 use Rattle.rz_machine.proofs.StepLaws.{step_keeps, after_keeps}
@@ -19,11 +20,6 @@ pub fetch_same : (m n : Regions) (a k : ℕ) → SameCode m n → fetch m a k �
 unfolding fetch
 fetch_same m n a zero h = refl
 fetch_same m n a (suc k) h = ap₂ fetched (h.at a) (fetch_same m n (a + 1) k h)
-
--- m has the code of an older memory, and no byte of m may be both written and executed
-pub record HasCode (old m : Regions) : Type 0 where
-  pub same : SameCode old m
-  pub fixed : NoSelfWritten m
 
 -- another byte in a cell leaves its permissions
 perms_set : (b : ℕ) (c : Cell) → SamePerms c (set_byte b c)

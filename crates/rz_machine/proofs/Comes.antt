@@ -15,8 +15,8 @@ use Rattle.rz_exec.specs.Form.{carry}
 use Rattle.rz_machine.specs.Action.{end_by}
 use Rattle.rz_machine.specs.State.{step, after, running, act, perform, perform_by, end_with, decoded_at}
 use Rattle.rz_machine.specs.Keeps.{Same}
-use Rattle.rz_machine.proofs.CodeLaws.{HasCode, fetch_same}
-use Rattle.rz_machine.specs.Placement.{InsnAt, Onto, Falls, ByJump}
+use Rattle.rz_machine.specs.Simulates.{InsnAt, HasCode}
+use Rattle.rz_machine.proofs.CodeLaws.{fetch_same}
 
 -- what is decoded where an instruction stands
 pub decodes_to : (dec : Decoder) (m : Regions) (p : ℕ) (x : Insn) (next : ℕ) (at : InsnAt dec m p x next) (t : Machine) → t.cpu.rip ≡ p → HasCode m t.mem → decoded_at dec t ≡ decoded.Insn x at.len
@@ -93,8 +93,3 @@ pub jump_comes : (dec : Decoder) (r : Range) (m : Regions) (p q next : ℕ) → 
 jump_comes dec r m p q next at s t runs rip h same =
     let t' : Machine = moved q t in
     one_more dec r s t t' 0 0 q (step_is dec m p (insn.Jmp q) next at t runs rip h ∙ jump_is (insn.Jmp q) q next t refl) (stay dec r s t' q runs refl (record { regs = same.regs; flags = same.flags; world = same.world; mem = same.mem }))
-
--- by no step or by one
-pub onto : (dec : Decoder) (r : Range) (m : Regions) (p q : ℕ) → Onto dec m p q → (s t : Machine) → t.end ≡ None → t.cpu.rip ≡ p → HasCode m t.mem → Same r s t → Comes dec r s t 0 1 q
-onto dec r m p q (Falls e) s t runs rip h same = weaker dec r s t 0 0 0 1 q (omega arith) (omega arith) (stay dec r s t q runs (rip ∙ e) same)
-onto dec r m p q (ByJump next at) s t runs rip h same = weaker dec r s t 1 1 0 1 q (omega arith) (omega arith) (jump_comes dec r m p q next at s t runs rip h same)

@@ -6,13 +6,12 @@ pub mod RegLaws
 pub mod Runs
 pub mod Placed
 pub mod Comes
-pub mod Fragment
 pub mod PlacedRuns
 pub mod SetLaws
 pub mod StartCode
 pub mod TraceLaws
 pub mod RecordedLaws
-pub mod TraceTurns
+pub mod CacheLaws
 pub mod Calls
 pub mod RunTurns
 pub mod StartRegions

@@ -6,7 +6,7 @@ use Rattle.rz_isa.specs.declared.instruction.Insn.{Insn}
 use Rattle.rz_isa.specs.declared.decoding.Decoded.TheVariants as decoded
 use Rattle.rz_image.specs.Memory.{Regions, cell_at, code_of, fetched, fetch}
 use Rattle.rz_isa.specs.Nodes.{Decoder}
-use Rattle.rz_machine.specs.Placement.{InsnAt}
+use Rattle.rz_machine.specs.Simulates.{InsnAt}
 
 -- these bytes may be executed at this place
 abbrev pub BytesAt : Regions → ℕ → List ℕ → Type 0

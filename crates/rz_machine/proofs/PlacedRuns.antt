@@ -9,7 +9,7 @@ use Rattle.rz_image.specs.Memory.{Regions, NoSelfWritten, RangeStands, wrap}
 use Rattle.rz_elf.specs.Elf.{Image}
 use Rattle.rz_isa.specs.Nodes.{Decoder}
 use Rattle.rz_machine.specs.declared.way.Halt.TheVariants as halt
-use Rattle.rz_machine.specs.Kept.{Kept, has_node}
+use Rattle.rz_machine.specs.Kept.{Kept, has_node, has_edge}
 use Rattle.rz_machine.specs.Nodes.{code_in, IsPlausible}
 use Rattle.rz_machine.specs.State.{step}
 use Rattle.rz_machine.specs.Touches.{StepClear}
@@ -17,13 +17,12 @@ use Rattle.rz_machine.specs.Start.{start, first_regs, first_rsp}
 use Rattle.rz_machine.specs.Added.{Layout}
 use Rattle.rz_machine.specs.Keeps.{StopsAtStub, KeepsRun}
 use Rattle.rz_machine.specs.Pace.{Paced}
-use Rattle.rz_machine.specs.Placement.{InsnAt, IsPlaced, PlacementsKeep}
-use Rattle.rz_machine.proofs.CodeLaws.{HasCode}
+use Rattle.rz_machine.specs.Placement.{IsPlaced, PlacementsKeep}
+use Rattle.rz_machine.specs.Simulates.{InsnAt, HasCode, Stand, Follows, Simulates, leads}
 use Rattle.rz_exec.specs.Registers.{AreRegs}
 use Rattle.rz_exec.specs.Laws.Registers.{set_regs}
-use Rattle.rz_machine.proofs.Runs.{Follows, Stand, keeps, paced}
+use Rattle.rz_machine.proofs.Runs.{keeps, paced}
 use Rattle.rz_machine.proofs.Comes.{step_is, halt_is}
-use Rattle.rz_machine.proofs.Fragment.{fragment_follows}
 use Rattle.rz_machine.proofs.StartHeap.{start_heap}
 use Rattle.rz_machine.proofs.StartCode.{start_code}
 
@@ -38,8 +37,8 @@ first_regs-are input = set_regs (replicate 16 0) 4 _ (record { sixteen = refl; w
     zeros : AllByRecursion (λ v. v < 2 ^ 64) (replicate 16 0)
     zeros = let z = zero_word in (z, (z, (z, (z, (z, (z, (z, (z, (z, (z, (z, (z, (z, (z, (z, (z, tt))))))))))))))))
 
-module _ (dec : Decoder) (x w : Image) (kept : Kept) (lay : Layout) (place : ℕ → ℕ) (can : IsPlausible dec (code_in x.loads) x.entry kept)
-    (x_fixed : NoSelfWritten x.loads) (w_fixed : NoSelfWritten w.loads) (are : IsPlaced dec x w kept lay place) (input : Input) where
+module _ (dec : Decoder) (x w : Image) (kept : Kept) (lay : Layout) (place bound : ℕ → ℕ) (can : IsPlausible dec (code_in x.loads) x.entry kept)
+    (x_fixed : NoSelfWritten x.loads) (w_fixed : NoSelfWritten w.loads) (are : IsPlaced dec x w kept lay place bound) (input : Input) where
   abbrev IsKept : ℕ → Type 0
   IsKept b = has_node kept.nodes b ≡ true
 
@@ -53,14 +52,15 @@ module _ (dec : Decoder) (x w : Image) (kept : Kept) (lay : Layout) (place : ℕ
   wm = new.mem
 
   -- each kept node's fragment follows it
-  each : (s t : Machine) → IsKept s.cpu.rip → Stand lay place x.loads wm s t → StepClear lay.added dec s → Follows dec kept.edges lay place (λ b. 3) s.cpu.rip (step dec s) t
+  each : (s t : Machine) → IsKept s.cpu.rip → Stand lay place x.loads wm s t → StepClear lay.added dec s → Follows dec lay (leads (has_edge kept.edges s.cpu.rip) place lay.stub s.cpu.rip) (bound s.cpu.rip) (step dec s) t
+  unfolding Simulates
   each s t node st clear =
       let b : ℕ = s.cpu.rip in
       let nd = can.stands.nodes b node in
       let fetched = nd.spelled in
       let here : InsnAt dec x.loads b nd.insn (wrap (b + nd.len)) = record { len = nd.len; spelled = fetched; ends = refl } in
       let fragment = (are.placement input).fragments b node nd.insn nd.len fetched in
-      fragment_follows dec kept.edges lay place (λ c. 3) (λ c. omega arith) x.loads wm b (wrap (b + nd.len)) nd.insn s t here fragment refl st clear
+      fragment.simulates lay place fragment.own x.loads wm here fragment.stand fragment.inside (are.placement input).scratch s t refl st clear
 
   -- a kept node's stub ends the run
   stub_stops : (t : Machine) (b : ℕ) → IsKept b → t.end ≡ None → HasCode wm t.mem → RangeStands lay.added wm t.mem → t.cpu.rip ≡ lay.stub b → StopsAtStub dec t
@@ -89,12 +89,12 @@ module _ (dec : Decoder) (x w : Image) (kept : Kept) (lay : Layout) (place : ℕ
       same_start = record { stdin = refl; replies = refl; events = refl; first_break = sym are.first_break; brk = sym are.first_break }
 
   pub keeps_placed : KeepsRun dec kept.edges lay old new
-  keeps_placed = keeps dec kept.edges lay place (λ b. 3) IsKept x.loads wm can.stands.ends each stub_stops old new can.entry_kept standing
+  keeps_placed = keeps dec kept.edges lay place bound IsKept x.loads wm can.stands.ends each stub_stops old new can.entry_kept standing
 
-  pub paced_placed : Paced dec kept.edges lay (λ b. 3) old new
-  paced_placed = paced dec kept.edges lay place (λ b. 3) IsKept x.loads wm can.stands.ends each stub_stops old new can.entry_kept standing
+  pub paced_placed : Paced dec kept.edges lay bound old new
+  paced_placed = paced dec kept.edges lay place bound IsKept x.loads wm can.stands.ends each stub_stops old new can.entry_kept standing
 
 -- the law
-pub placements_keep : (dec : Decoder) → PlacementsKeep dec 3
-placements_keep dec x w kept lay place can x_fixed w_fixed are input =
-    (keeps_placed dec x w kept lay place can x_fixed w_fixed are input, paced_placed dec x w kept lay place can x_fixed w_fixed are input)
+pub placements_keep : (dec : Decoder) → PlacementsKeep dec
+placements_keep dec x w kept lay place bound can x_fixed w_fixed are input =
+    (keeps_placed dec x w kept lay place bound can x_fixed w_fixed are input, paced_placed dec x w kept lay place bound can x_fixed w_fixed are input)

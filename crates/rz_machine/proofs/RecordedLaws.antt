@@ -18,7 +18,7 @@ use Rattle.rz_isa.specs.Nodes.{Code}
 use Rattle.rz_machine.specs.Nodes.{code_in, StandsIn}
 use Rattle.rz_machine.specs.Recorded.{IsUncut, StaysPlausible}
 use Rattle.rz_machine.proofs.SetLaws.{has_node-with_nodes, has_edge-with_edges}
-use Rattle.rz_machine.proofs.CodeLaws.{HasCode}
+use Rattle.rz_machine.specs.Simulates.{HasCode}
 use Rattle.rz_sys.specs.Heap.{HasHeap}
 use Rattle.rz_machine.proofs.StartCode.{start_code}
 use Rattle.rz_machine.proofs.TraceLaws.{IsDirect, Begins, begins, begins_or, step_ended, after_ended, begun_nodes, begun_direct, neighbours_in}

@@ -11,33 +11,12 @@ use Rattle.rz_machine.specs.Added.{Layout}
 use Rattle.rz_machine.specs.Keeps.{Same, Leaves, IsCut, NoCut, AlikeEnds, StopsAtStub, KeepsRun}
 use Rattle.rz_machine.specs.Kept.{Edges, has_edge}
 use Rattle.rz_machine.specs.Pace.{IsMoment, Paced}
-use Rattle.rz_machine.specs.Placement.{dest}
+use Rattle.rz_machine.specs.Simulates.{HasCode, Stand, Follows, leads}
 use Rattle.rz_sys.specs.Heap.{HasHeap}
 use Rattle.rz_machine.proofs.StepLaws.{step_heap, after_heap, after_break}
-use Rattle.rz_machine.proofs.CodeLaws.{HasCode, step_code, after_code, after_range}
+use Rattle.rz_machine.proofs.CodeLaws.{step_code, after_code, after_range}
 use Rattle.rz_exec.specs.Registers.{AreRegs}
 use Rattle.rz_machine.proofs.RegLaws.{step_regs}
-
--- the old run's step from a led to s, and some steps of the new one lead to the same
-pub record Follows (dec : Decoder) (edges : Edges) (lay : Layout) (place bound : ℕ → ℕ) (a : ℕ) (s t : Machine) : Type 0 where
-  pub goes : s.end ≡ None
-      → (m : ℕ) × (0 < m) × (m ≤ bound a) × ((after dec m t).end ≡ None) × ((after dec m t).cpu.rip ≡ dest edges place lay.stub a s.cpu.rip) × Same lay.added s (after dec m t)
-  pub ends : (why : End) → s.end ≡ Some why
-      → (m : ℕ) × (0 < m) × (m ≤ bound a) × (why' : End) × ((after dec m t).end ≡ Some why') × AlikeEnds lay.code (Some why) (Some why') × Same lay.added s (after dec m t)
-
--- the old run stands at an address, and the new one at its place
-pub record Stand (lay : Layout) (place : ℕ → ℕ) (xm wm : Regions) (s t : Machine) : Type 0 where
-  pub old_runs : s.end ≡ None
-  pub new_runs : t.end ≡ None
-  pub there : t.cpu.rip ≡ place s.cpu.rip
-  pub same : Same lay.added s t
-  pub regs : AreRegs s.cpu.regs
-  pub old_code : HasCode xm s.mem
-  pub new_code : HasCode wm t.mem
-  pub added : RangeStands lay.added wm t.mem
-  pub old_heap : HasHeap s.mem s.world
-  pub new_heap : HasHeap t.mem t.world
-  pub below : lay.added.high ≤ t.world.first_break
 
 -- a run that has ended stays
 pub stays : (dec : Decoder) (s : Machine) (why : End) → s.end ≡ Some why → step dec s ≡ s
@@ -80,7 +59,7 @@ moment_most dec r bound b low x w (suc n) m h =
 
 module _ (dec : Decoder) (edges : Edges) (lay : Layout) (place bound : ℕ → ℕ) (IsNode : ℕ → Type 0) (xm wm : Regions)
     (ends_are_nodes : (a b : ℕ) → has_edge edges a b ≡ true → IsNode b)
-    (each : (s t : Machine) → IsNode s.cpu.rip → Stand lay place xm wm s t → StepClear lay.added dec s → Follows dec edges lay place bound s.cpu.rip (step dec s) t)
+    (each : (s t : Machine) → IsNode s.cpu.rip → Stand lay place xm wm s t → StepClear lay.added dec s → Follows dec lay (leads (has_edge edges s.cpu.rip) place lay.stub s.cpu.rip) (bound s.cpu.rip) (step dec s) t)
     (stub_stops : (t : Machine) (a : ℕ) → IsNode a → t.end ≡ None → HasCode wm t.mem → RangeStands lay.added wm t.mem → t.cpu.rip ≡ lay.stub a → StopsAtStub dec t)
     (x w : Machine) (begins : IsNode x.cpu.rip) (stands : Stand lay place xm wm x w) where
   -- after n steps along kept edges the old run stands at a node, and the new one at its place

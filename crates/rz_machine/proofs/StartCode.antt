@@ -7,7 +7,7 @@ use Rattle.rz_sys.specs.declared.input.Input.{Input}
 use Rattle.rz_image.specs.Memory.{Regions, no_cell, contains, cell_in, cell_at, code_of, NoSelfWritten}
 use Rattle.rz_elf.specs.Elf.{Image}
 use Rattle.rz_machine.specs.Start.{start, heap_region, stack_region}
-use Rattle.rz_machine.proofs.CodeLaws.{HasCode}
+use Rattle.rz_machine.specs.Simulates.{HasCode}
 
 -- an address is in the first regions, or it has no cell there and that of the rest
 pub cell_at-append : (m n : Regions) (a : ℕ) → (cell_at (m ++ n) a ≡ cell_at m a) ⊎ ((cell_at m a ≡ no_cell) × (cell_at (m ++ n) a ≡ cell_at n a))

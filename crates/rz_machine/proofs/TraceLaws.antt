@@ -28,7 +28,8 @@ use Rattle.rz_machine.specs.Kept.{has_edge, has_node}
 use Rattle.rz_machine.specs.LeftCode.{left_at}
 use Rattle.rz_sys.specs.Heap.{HasHeap}
 use Rattle.rz_machine.proofs.StepLaws.{step_heap}
-use Rattle.rz_machine.proofs.CodeLaws.{HasCode, fetch_same, step_code}
+use Rattle.rz_machine.specs.Simulates.{HasCode}
+use Rattle.rz_machine.proofs.CodeLaws.{fetch_same, step_code}
 
 -- an instruction never ends a run with Fetch or Unknown
 pub perform_stays : (x : Insn) (next : ℕ) (s : Machine) → s.end ≡ None → left_at (perform x next s).end ≡ None

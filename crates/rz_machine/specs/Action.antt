@@ -13,7 +13,7 @@ use Rattle.rz_machine.specs.declared.way.Way.{Way}
 use Rattle.rz_machine.specs.declared.way.Way.TheVariants.{Onward, Jumps, Branches, BranchesOnRcx, Transfers, Calls, Halts}
 use Rattle.rz_machine.specs.declared.machine.End.{End}
 use Rattle.rz_machine.specs.declared.machine.End.TheVariants as end
-use Rattle.rz_image.specs.Memory.{Regions}
+use Rattle.rz_image.specs.Memory.{Regions, wrap}
 use Rattle.rz_exec.specs.declared.state.Cpu.{Cpu}
 use Rattle.rz_exec.specs.declared.state.Fault.{Fault}
 use Rattle.rz_exec.specs.Form.{WordAt, Effect, PlainEffect, first_word}
@@ -60,12 +60,12 @@ transfer_effect (transfer.CallInd src) next regs flags = call_effect (word_of W6
 transfer_effect (transfer.JmpInd src) next regs flags = from_word (word_of W64 regs src) (λ a. new_regs regs flags)
 transfer_effect (transfer.Ret pop) next regs flags = return_effect pop regs flags
 
--- where it leads, by the word that is read first
+-- where it leads, by the word that is read first; RIP has 64 bits (volume 1, section 3.5.1)
 abbrev pub transfer_to : Transfer → List ℕ → ℕ → ℕ
 transfer_to (transfer.Call target) regs word = target
-transfer_to (transfer.CallInd src) regs word = value_of W64 regs src word
-transfer_to (transfer.JmpInd src) regs word = value_of W64 regs src word
-transfer_to (transfer.Ret pop) regs word = word
+transfer_to (transfer.CallInd src) regs word = wrap (value_of W64 regs src word)
+transfer_to (transfer.JmpInd src) regs word = wrap (value_of W64 regs src word)
+transfer_to (transfer.Ret pop) regs word = wrap word
 
 -- RIP after it: a fault leaves it
 abbrev pub rip_after : Option Fault → Transfer → ℕ → Cpu → Regions → ℕ

@@ -11,6 +11,7 @@ pub mod Added
 pub mod Keeps
 pub mod WrittenFile
 pub mod Pace
+pub mod Simulates
 pub mod Placement
 pub mod LeftCode
 pub mod Traced

@@ -2,12 +2,35 @@
 
 use crate::machine::{End, Outcome};
 use crate::start::start;
-use crate::trace_tests::program;
-use rz_num::Bytes;
+use rz_elf::elf::Elf;
+use rz_elf::fault::ElfError;
+use rz_elf::read::read_elf;
+use rz_num::{Bytes, put_u64};
 use rz_sys::input::Input;
 use rz_sys::world::Unread;
-use rz_table::Early;
+use rz_table::Profile1;
+use std::alloc::Global;
 use std::test::Fail;
+
+// The headers of a thin file, with no sizes.
+const HEADERS: [u8; 120] = [
+    0x7f, b'E', b'L', b'F', 2, 1, 1, 0, 0, 0, 0, 0, 0, 0, 0, 0, 2, 0, 62, 0, 1, 0, 0, 0, 0, 0x10,
+    0x40, 0, 0, 0, 0, 0, 64, 0, 0, 0, 0, 0, 0, 0, 0, 0, 0, 0, 0, 0, 0, 0, 0, 0, 0, 0, 64, 0, 56, 0,
+    1, 0, 0, 0, 0, 0, 0, 0, 1, 0, 0, 0, 5, 0, 0, 0, 0, 0x10, 0, 0, 0, 0, 0, 0, 0, 0x10, 0x40, 0, 0,
+    0, 0, 0, 0, 0x10, 0x40, 0, 0, 0, 0, 0, 0, 0, 0, 0, 0, 0, 0, 0, 0, 0, 0, 0, 0, 0, 0, 0, 0, 0x10,
+    0, 0, 0, 0, 0, 0,
+];
+
+// The thin file of a code, which stands at 0x401000.
+fn program(alloc: Global, code: &[u8]) -> Result<Elf, ElfError> {
+    let mut headers = HEADERS;
+    put_u64(&mut headers, 96, code.len() as u64);
+    put_u64(&mut headers, 104, code.len() as u64);
+    let mut bytes = Bytes::from_slice(alloc, &headers)?;
+    bytes.push_all(&[0; 3976])?;
+    bytes.push_all(code)?;
+    read_elf(alloc, bytes)
+}
 
 const CODE: [u8; 68] = [
     0xb8, 12, 0, 0, 0, 0xbf, 0, 0x30, 0x40, 0, 0x0f, 0x05, 0xb8, 0, 0, 0, 0, 0xbf, 0, 0, 0, 0,
@@ -22,7 +45,7 @@ fn reads_into_the_heap(rt: HostRuntime) -> Result<(), Fail> {
     let elf = program(alloc, &CODE)?;
     let mut machine = start(alloc, &elf, &Input::empty(alloc))?;
     machine.world.stdin = Unread::from_bytes(Bytes::from_slice(alloc, b"abc")?);
-    let outcome = machine.run::<Early>(alloc, 100)?;
+    let outcome = machine.run::<Profile1>(alloc, 100)?;
     assert_eq!(rt; outcome, Outcome::Ended(End::Exit(7)));
     let calls = [
         (12, 0x40_3000, b"".as_slice()),

@@ -1,14 +1,12 @@
-//! The written machine: its definitions, the machine that runs, and the tracer.
+//! The written machine: its definitions, and the machine that runs.
 #![tactic(auto)]
 
+pub mod cache;
 #[cfg(test)]
 mod call_tests;
 pub mod law;
 pub mod machine;
 pub mod start;
 pub mod stub;
-pub mod trace;
-#[cfg(test)]
-mod trace_tests;
 mod transfer;
 pub mod way;

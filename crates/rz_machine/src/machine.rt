@@ -5,9 +5,9 @@ ghost use Rattle.rz_exec.specs.Fault.{exception_of};
 ghost use Rattle.rz_machine.specs.Action.{end_by};
 ghost use Rattle.rz_machine.specs.State.{end_of};
 
+use crate::cache::{DecodeCache, decode_at};
 use crate::transfer::transfer;
 use crate::way::{Halt, Way, find_way};
-use rz_decode::decode;
 use rz_exec::{Cpu, Fault, exec_plain};
 use rz_flags::{holds, to_word};
 use rz_image::memory::Memory;
@@ -75,11 +75,12 @@ impl Machine {
     ghost use Rattle.std.specs.Prelude.{◌≡◌, ◌<◌, ℕ, IsTrue, OnOk, OnErr, IfOk};
     ghost use Rattle.rz_isa.specs.Decoded.{decoded};
     ghost use Rattle.rz_exec.specs.Effect.{is_named};
-    ghost use Rattle.rz_machine.specs.State.{step as step_of, after as after_of, perform as perform_of, perform_by, perform_action};
+    ghost use Rattle.rz_machine.specs.State.{step as step_of, after as after_of, act as act_of, perform as perform_of, perform_by, perform_action};
     ghost use Rattle.rz_machine.specs.Action.{Asks};
     ghost use Rattle.rz_machine.specs.Way.{way_of};
     ghost use Rattle.rz_machine.specs.declared.way.Way.TheVariants as ways;
     ghost use Rattle.rz_machine.specs.Ran.{outcome_of};
+    ghost use Rattle.rz_machine.specs.Calls.Cache.{HasNames, Serves};
 
     /// One step, over a table of instructions. A machine that has ended stays.
     /// It refuses for want of memory alone, and then nothing is changed.
@@ -91,22 +92,27 @@ impl Machine {
         if self.end.is_some() {
             return Ok(());
         }
-        let mut bytes = [0; 15];
-        let count = self.mem.fetch(self.cpu.rip, &mut bytes);
-        match decode::<T>(&bytes[..count as usize], self.cpu.rip) {
-            Decoded::Insn { insn, len } => {
-                let next = self.cpu.rip.wrapping_add(len as u64);
-                self.perform(alloc, &insn, next)
-            }
-            Decoded::Short => {
-                self.end = Some(End::Fetch(self.cpu.rip));
-                Ok(())
-            }
-            Decoded::Unknown => {
-                self.end = Some(End::Unknown(self.cpu.rip));
-                Ok(())
-            }
+        let spelled = decode_at::<T>(&self.mem, self.cpu.rip);
+        self.act(alloc, &spelled)
+    }
+
+    /// The same step, with a cache of what the code spells.
+    #[tactic(auto, unfolding(crate::specs::State::step))]
+    pub fn step_with<T: InsnTable>(
+        &mut self,
+        alloc: Global,
+        cache: &mut DecodeCache,
+    ) -> Result<(), OutOfMemory>
+        requires { Serves (decoded T.rows) self.old.mem cache.old }
+        ensures ok { OnOk result (self.new ≡ step_of (decoded T.rows) self.old) }
+        ensures err { OnErr result (self.new ≡ self.old) }
+        ensures serves { Serves (decoded T.rows) self.new.mem cache.new }
+    {
+        if self.end.is_some() {
+            return Ok(());
         }
+        let spelled = cache.decode::<T>(alloc, &self.mem, self.cpu.rip);
+        self.act(alloc, &spelled)
     }
 
     /// At most `n` steps, over a table of instructions, until the machine has ended.
@@ -116,11 +122,12 @@ impl Machine {
         ensures outcome { IfOk result (λ outcome. outcome ≡ outcome_of self.new.end) }
         ensures err { OnErr result ((k : ℕ) × (k < n) × (self.new ≡ after_of (decoded T.rows) k self.old)) }
     {
+        let mut cache = DecodeCache::new::<T>(alloc, &self.mem);
         for _ in 0..n {
             if self.end.is_some() {
                 return Ok(self.outcome());
             }
-            self.step::<T>(alloc)?;
+            self.step_with::<T>(alloc, &mut cache)?;
         }
         Ok(self.outcome())
     }
@@ -132,6 +139,28 @@ impl Machine {
         match self.end {
             Some(end) => Outcome::Ended(end),
             None => Outcome::Running,
+        }
+    }
+
+    // What the bytes at RIP spell.
+    fn act(&mut self, alloc: Global, spelled: &Decoded) -> Result<(), OutOfMemory>
+        requires { HasNames spelled.now }
+        ensures ok { OnOk result (self.new ≡ act_of spelled.now self.old) }
+        ensures err { OnErr result (self.new ≡ self.old) }
+    {
+        match spelled {
+            Decoded::Insn { insn, len } => {
+                let next = self.cpu.rip.wrapping_add(*len as u64);
+                self.perform(alloc, insn, next)
+            }
+            Decoded::Short => {
+                self.end = Some(End::Fetch(self.cpu.rip));
+                Ok(())
+            }
+            Decoded::Unknown => {
+                self.end = Some(End::Unknown(self.cpu.rip));
+                Ok(())
+            }
         }
     }
 

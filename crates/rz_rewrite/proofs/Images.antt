@@ -5,7 +5,7 @@ use Rattle.std.proofs.lemmas.Bool.{cond-true, cond-false}
 use Rattle.std.proofs.lemmas.Bool.Decides.{nat_tests}
 use Rattle.rz_image.specs.declared.region.Region.{Region}
 use Rattle.rz_image.specs.Perm.{has_flag}
-use Rattle.rz_image.specs.Memory.{Regions, contains, cell_in, cell_at, code_of, IsOutside, SameCell, zeros, whole_region}
+use Rattle.rz_image.specs.Memory.{Cell, Regions, contains, cell_in, cell_at, code_of, IsOutside, SameCell, zeros, whole_region}
 use Rattle.rz_elf.specs.AddedRange.{scratch_size}
 use Rattle.rz_elf.specs.WrittenFile.{Parts, added_regions, without_code}
 use Rattle.rz_image.specs.Perm.{read_write, read_only, read_execute}
@@ -80,6 +80,16 @@ module _ (p : Parts) (rest : Regions) where
 
   stubs : Region
   stubs = whole_region stubs_at p.stubs read_execute
+
+  -- the scratch page may be read and written
+  pub scratch_there : (a : ℕ) → p.base ≤ a → a < p.base + scratch_size → ((cell_at Whole a).read ≡ true) × ((cell_at Whole a).write ≡ true)
+  unfolding cell_at scratch
+  scratch_there a low high =
+      let long = length-zeros scratch_size in
+      let e = inside scratch a low (omega (arith, high, long)) in
+      let f : nat_lt (a - p.base) (length (zeros scratch_size)) ≡ true = lt-ltb (a - p.base) (length (zeros scratch_size)) (omega (arith, low, high, long)) in
+      let cell : cell_at Whole a ≡ cell_in scratch (a - p.base) = cond-true (contains scratch a) _ _ e in
+      (ap (λ (c : Cell). c.read) cell ∙ ap (λ b. b && true) f, ap (λ (c : Cell). c.write) cell ∙ ap (λ b. b && true) f)
 
   -- the code part may be executed
   pub code_there : BytesAt Whole code_at p.code

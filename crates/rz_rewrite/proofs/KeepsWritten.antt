@@ -1,53 +1,60 @@
 -- A rewritten file keeps each run of the original.
-use Rattle.std.proofs.Common.{◌≡◌, ℕ, ◌+◌, ◌-◌, ◌*◌, ◌^◌, ◌<◌, ◌≤◌, true, List, [], ◌∷◌, ◌++◌, length, map, replicate, IsTrue, refl, sym, ap, ◌∙◌, subst, subst₂, arith, append_assoc}
+use Rattle.std.proofs.Common.{◌≡◌, ℕ, suc, ◌+◌, ◌-◌, ◌*◌, ◌^◌, ◌<◌, ◌≤◌, Bool, true, false, nat_le, if◌then◌else◌, List, [], ◌∷◌, ◌++◌, length, map, replicate, Some, None, IsTrue, IsSomeAnd, refl, sym, ap, ◌∙◌, subst, subst₂, arith, append_assoc, append-nil}
+use Rattle.std.specs.Option.{option_map}
 use Rattle.rz_num.specs.Bytes.{are_bytes}
 use Rattle.rz_isa.specs.declared.rows.Row.{Row}
+use Rattle.rz_isa.specs.declared.rows.Form.{Form}
+use Rattle.rz_isa.specs.declared.rows.Form.TheVariants.{Near}
+use Rattle.rz_isa.specs.declared.decoding.Decoded.TheVariants as decodeds
 use Rattle.rz_isa.specs.declared.instruction.Insn.{Insn}
 use Rattle.rz_isa.specs.declared.instruction.Insn.TheVariants as insn
+use Rattle.rz_isa.specs.declared.item_list.Item.{Item}
+use Rattle.rz_isa.specs.declared.item_list.Label.TheVariants as label
+use Rattle.rz_isa.specs.declared.item_list.Slot.{Slot}
+use Rattle.rz_isa.specs.declared.fragment_list.Fragments.{Fragments}
 use Rattle.rz_isa.specs.Decoded.{decoded}
+use Rattle.rz_isa.specs.Items.{Addresses, list_slots, slots_from, item_count, label_address, resolved}
 use Rattle.rz_isa.specs.Nodes.{Decoder}
-use Rattle.rz_rewrite.specs.declared.items.Item.{Item}
-use Rattle.rz_rewrite.specs.declared.items.Label.{Label}
-use Rattle.rz_rewrite.specs.declared.items.Label.TheVariants as label
-use Rattle.rz_machine.specs.declared.machine.Machine.{Machine}
-use Rattle.rz_machine.specs.declared.way.Way.{Way}
-use Rattle.rz_machine.specs.declared.way.Way.TheVariants.{BranchesOnRcx}
-use Rattle.rz_machine.specs.Way.{way_of}
-use Rattle.rz_sys.specs.declared.input.Input.{Input}
-use Rattle.rz_machine.specs.Kept.{Kept, has_node, sorted}
-use Rattle.rz_image.specs.Memory.{Regions, IsOutside, SameCell, Alike, NoSelfWritten, cell_at, fetch, wrap}
-use Rattle.rz_machine.specs.Start.{start, heap_region, stack_region}
+use Rattle.rz_isa.specs.Plan.{place as place_of, code_end}
+use Rattle.rz_image.specs.Memory.{Regions, IsInside, IsOutside, SameCell, Alike, NoSelfWritten, cell_at, fetch, wrap}
+use Rattle.rz_image.specs.Laws.Cells.{IsFixed, none_self_written}
 use Rattle.rz_elf.specs.Elf.{Image}
-use Rattle.rz_machine.specs.Added.{Layout, node_count, added, layout_of}
 use Rattle.rz_elf.specs.AddedRange.{Added, all_stubs}
+use Rattle.rz_elf.specs.PlainImage.{IsPlainImage}
 use Rattle.rz_elf.specs.WrittenFile.{Parts, added_regions, without_code, new_image}
+use Rattle.rz_sys.specs.declared.input.Input.{Input}
+use Rattle.rz_machine.specs.declared.machine.Machine.{Machine}
+use Rattle.rz_machine.specs.Added.{Layout, node_count, added, layout_of, index_of}
 use Rattle.rz_machine.specs.Keeps.{KeepsRun}
-use Rattle.rz_machine.specs.Pace.{Paced}
+use Rattle.rz_machine.specs.Kept.{Kept, has_node, sorted}
 use Rattle.rz_machine.specs.Nodes.{code_in}
+use Rattle.rz_machine.specs.Pace.{Paced}
+use Rattle.rz_machine.specs.Placement.{FragmentAt, IsPlacement, IsPlaced}
+use Rattle.rz_machine.specs.Simulates.{InsnAt, ItemsFrom, HasScratch, label_at}
+use Rattle.rz_machine.specs.Start.{start, heap_region, stack_region}
 use Rattle.rz_machine.proofs.CodeLaws.{fetch_same}
+use Rattle.rz_machine.proofs.Placed.{BytesAt, insn_of_bytes}
+use Rattle.rz_machine.proofs.PlacedRuns.{placements_keep}
 use Rattle.rz_machine.proofs.SetLaws.{has_node-sorted, IsAscending-sorted}
 use Rattle.rz_machine.proofs.StartCode.{start_code}
-use Rattle.rz_rewrite.specs.Fragments.{items_of, items_by, items_for, trimmed, items_len, address_of, address_within, items_bytes, bytes_or_none, spelling}
-use Rattle.rz_elf.specs.PlainImage.{IsPlainImage}
-use Rattle.rz_rewrite.specs.Rewritten.{IsFit, IsRewritten, fragments_of, place_of, code_of_nodes}
-use Rattle.rz_rewrite.specs.Spellable.{AllSpelled}
+use Rattle.rz_emit.specs.Emitted.{code_bytes}
+use Rattle.rz_rewrite.specs.Fragments.{targets_of, items_of, items_for, node_items, trimmed}
+use Rattle.rz_rewrite.specs.Reach.{is_out_of_reach}
+use Rattle.rz_rewrite.specs.Rewritten.{IsFit, IsRewritten, fragments_of, place_by, place_or_zero}
 use Rattle.rz_rewrite.specs.Calls.Table.{TableFacts}
-use Rattle.rz_machine.proofs.Placed.{BytesAt}
-use Rattle.rz_machine.specs.Placement.{InsnAt, FragmentAt, IsPlacement, IsPlaced}
-use Rattle.rz_machine.proofs.PlacedRuns.{placements_keep}
-use Rattle.rz_rewrite.proofs.SpelledItems.{ItemsAt, insn_of_spelling, items_stand}
-use Rattle.rz_rewrite.proofs.EmittedItems.{ud2_spelled}
-use Rattle.rz_rewrite.proofs.Trimmed.{length-trimmed, length-items_of, third_item, fragment_stands}
-use Rattle.rz_rewrite.proofs.Emitted.{items, Found, found}
-use Rattle.rz_rewrite.proofs.SpelledParts.{all_spelled}
-use Rattle.rz_image.specs.Laws.Cells.{IsFixed, none_self_written}
-use Rattle.rz_rewrite.proofs.Images.{all_append, stripped_fixed, stripped_same, Whole, code_at, stubs_at, stop_at, code_there, stubs_there, beside, added_fixed}
-use Rattle.rz_rewrite.proofs.PlainNodes.{plain_fixed, Stands, stands, fetched_bytes}
-use Rattle.rz_rewrite.proofs.Parts.{Lie, stub_found}
 use Rattle.rz_rewrite.proofs.HeapRoom.{stop_below, written_room}
-use Rattle.rz_rewrite.proofs.RewrittenLaws.{stubs_room, place_below, place_in_code, stop_low, label_low, lie}
+use Rattle.rz_rewrite.proofs.Images.{all_append, stripped_fixed, stripped_same, Whole, code_at, stubs_at, stop_at, scratch_there, code_there, stubs_there, beside, added_fixed}
+use Rattle.rz_rewrite.proofs.NodeFragments.{node_some, slots_long, stub_beside}
+use Rattle.rz_rewrite.proofs.NodeItems.{in_reach, names_low, items_simulate}
+use Rattle.rz_rewrite.proofs.PartRoom.{scratch_room, stubs_room, stop_low, lie}
+use Rattle.rz_rewrite.proofs.Parts.{Lie, stub_found, index_low}
+use Rattle.rz_rewrite.proofs.PlainNodes.{plain_fixed, Stands, stands, fetched_bytes}
+use Rattle.rz_rewrite.proofs.Standing.{AllFrom, all_append as split_all, items_stand, ascends}
+use Rattle.rz_rewrite.proofs.Standing.{Stands as StandsAt}
+use Rattle.rz_rewrite.proofs.StandingFragments.{Extends, extended, EachAt, whole_stands, Found, found}
 
-module _ (rows : List Row) (facts : TableFacts rows) (x : Image) (kept : Kept) (parts : Parts) (entry : ℕ) (fit : IsFit (decoded rows) x kept) (are : IsRewritten rows x kept parts entry) (new_plain : IsPlainImage (new_image x parts entry)) where
+module _ (rows : List Row) (facts : TableFacts rows) (x : Image) (kept : Kept) (parts : Parts) (entry : ℕ) (forms : List Form) (fit : IsFit (decoded rows) x kept)
+    (are : IsRewritten rows x kept parts entry forms) (new_plain : IsPlainImage (new_image x parts entry)) where
   abbrev dec : Decoder
   dec = decoded rows
 
@@ -60,11 +67,17 @@ module _ (rows : List Row) (facts : TableFacts rows) (x : Image) (kept : Kept) (
   abbrev lay : Layout
   lay = layout_of dec x kept
 
-  abbrev place : ℕ → ℕ
-  place = place_of rows x kept
+  abbrev frags : Fragments
+  frags = fragments_of dec x kept
 
-  abbrev at : Label → ℕ
-  at = address_of rows (fragments_of dec x kept) (sorted kept.nodes) a
+  abbrev at : ℕ → ℕ
+  at = place_of rows frags a.code forms
+
+  abbrev place : ℕ → ℕ
+  place = place_by rows frags a.code forms
+
+  abbrev pub bound : ℕ → ℕ
+  bound b = 64 + 4 * length (targets_of kept.edges b)
 
   abbrev IsKept : ℕ → Type 0
   IsKept b = has_node kept.nodes b ≡ true
@@ -75,6 +88,41 @@ module _ (rows : List Row) (facts : TableFacts rows) (x : Image) (kept : Kept) (
 
   x_fixed : NoSelfWritten x.loads
   x_fixed = none_self_written x.loads (plain_fixed x.loads fit.plain)
+
+  -- the parts lie as the layout says, at low addresses
+  where_parts_lie : Lie a parts.base (length parts.tables) (length parts.code) (length parts.stubs)
+  where_parts_lie = lie dec x kept fit.room parts entry are.parts_added
+
+  top : a.stop ≤ 0x70000000
+  top = stop_low dec x kept fit.room fit.plain
+
+  page : a.scratch + 16 < 2 ^ 31
+  page =
+      let h = scratch_room dec x kept fit.room in
+      let k = stubs_room dec x kept fit.room in
+      let e = are.ends in
+      go a.scratch a.code (code_end rows frags a.code forms) a.stubs (node_count kept) a.stop h (from_base a.code _) e k top
+    where
+      from_base : (b o : ℕ) → b ≤ b + o
+      from_base b o = omega arith
+
+      go : (s c e t n stop : ℕ) → s + 4096 ≤ c → c ≤ e → e + 512 ≤ t → t + 24 * n ≤ stop → stop ≤ 0x70000000 → s + 16 < 2 ^ 31
+      go s c e t n stop h g i j k = omega arith
+
+  code_below : code_end rows frags a.code forms < a.stubs
+  code_below = let e = are.ends in omega (arith, e)
+
+  code_low : code_end rows frags a.code forms < 2 ^ 64
+  code_low = let k = stubs_room dec x kept fit.room in go (code_end rows frags a.code forms) a.stubs (node_count kept) a.stop code_below k top
+    where
+      go : (e t n stop : ℕ) → e < t → t + 24 * n ≤ stop → stop ≤ 0x70000000 → e < 2 ^ 64
+      go e t n stop h i j = omega arith
+
+  node_low : (b : ℕ) → IsKept b → b < 2 ^ 31
+  node_low b m =
+      let node = fit.plausible.stands.nodes b m in
+      let h = (stands rows facts x fit.plain b node.insn node.len node.spelled).low in
+      omega (arith, h)
 
   module _ (input : Input) where
     abbrev old : Machine
@@ -94,10 +142,6 @@ module _ (rows : List Row) (facts : TableFacts rows) (x : Image) (kept : Kept) (
     new_mem : new.mem ≡ Whole parts rest
     new_mem = append_assoc (added_regions parts) (map without_code x.loads) ends
 
-    -- these lie as the layout says
-    where_parts_lie : Lie a parts.base (length parts.tables) (length parts.code) (length parts.stubs)
-    where_parts_lie = lie dec x kept fit.room parts entry are.parts_added
-
     -- both memories are alike at the start
     alike : Alike lay.added old.mem new.mem
     alike = record { at = same }
@@ -110,89 +154,180 @@ module _ (rows : List Row) (facts : TableFacts rows) (x : Image) (kept : Kept) (
         same : (b : ℕ) → IsOutside lay.added b → SameCell (cell_at old.mem b) (cell_at new.mem b)
         same b out = rw (new_mem, beside parts rest b (outside b out)) (stripped_same x.loads ends b)
 
-    -- the fragments stand in the code part
-    code_bytes : BytesAt new.mem a.code (code_of_nodes rows x kept ++ are.fill)
-    code_bytes =
-        let P : Regions → ℕ → Type 0 = λ m p. BytesAt m p (code_of_nodes rows x kept ++ are.fill) in
+    -- the scratch page may be read and written
+    scratch_page : HasScratch lay.added.low lay.added new.mem
+    scratch_page = record {
+      first = refl;
+      last =
+          let h = scratch_room dec x kept fit.room in
+          let k = stubs_room dec x kept fit.room in
+          last a.scratch a.code (code_end rows frags a.code forms) a.stubs (node_count kept) a.stop h (from_base a.code _) are.ends k;
+      top = top;
+      readable = λ b low high. (page_cell b low high).0;
+      writable = λ b low high. (page_cell b low high).1;
+    }
+      where
+        from_base : (b o : ℕ) → b ≤ b + o
+        from_base b o = omega arith
+
+        last : (s c e t n stop : ℕ) → s + 4096 ≤ c → c ≤ e → e + 512 ≤ t → t + 24 * n ≤ stop → s + 4096 ≤ stop
+        last s c e t n stop h g i j = omega arith
+
+        page_cell : (b : ℕ) → a.scratch ≤ b → b < a.scratch + 4096 → ((cell_at new.mem b).read ≡ true) × ((cell_at new.mem b).write ≡ true)
+        page_cell b low high =
+            let P : Regions → Type 0 = λ m. ((cell_at m b).read ≡ true) × ((cell_at m b).write ≡ true) in
+            let base = where_parts_lie.scratch in
+            subst P (sym new_mem) (scratch_there parts rest b (omega (arith, low, base)) (omega (arith, high, base)))
+
+    -- the items stand in the code part
+    abbrev fill : List ℕ
+    fill = replicate (a.stubs - a.code - length (code_bytes rows frags a.code forms)) 0xcc
+
+    code_there_new : BytesAt new.mem a.code (code_bytes rows frags a.code forms ++ fill)
+    code_there_new =
+        let P : Regions → ℕ → Type 0 = λ m p. BytesAt m p (code_bytes rows frags a.code forms ++ fill) in
         subst (λ p. P new.mem p) where_parts_lie.code (subst (λ m. P m (code_at parts rest)) (sym new_mem) (subst (BytesAt (Whole parts rest) (code_at parts rest)) are.code (code_there parts rest)))
 
     -- and the stubs in theirs
-    stub_bytes : BytesAt new.mem a.stubs parts.stubs
-    stub_bytes =
+    stubs_there_new : BytesAt new.mem a.stubs parts.stubs
+    stubs_there_new =
         subst (λ p. BytesAt new.mem p parts.stubs) where_parts_lie.stubs (subst (λ m. BytesAt m (stubs_at parts rest) parts.stubs) (sym new_mem) (stubs_there parts rest))
 
     -- what may be executed are bytes
-    executed_bytes : (p : ℕ) → IsTrue (are_bytes (fetch new.mem p 15))
-    executed_bytes p =
+    executed : (p : ℕ) → IsTrue (are_bytes (fetch new.mem p 15))
+    executed p =
         let P : List ℕ → Type 0 = λ l. IsTrue (are_bytes l) in
         subst P (fetch_same w.loads new.mem p 15 (start_code w input w_fixed).same) (fetched_bytes w new_plain p)
 
+    abbrev Each : ℕ → Slot → Type 0
+    Each = StandsAt rows facts.back facts.short frags a.code forms new.mem executed are.plan code_low
+
+    all_items : AllFrom Each 0 (slots_from 0 frags.list)
+    all_items = (split_all Each 0 (slots_from 0 frags.list) [] (items_stand rows facts.back facts.short frags a.code forms new.mem executed are.plan code_low fill code_there_new)).0
+
+    abbrev its : ℕ → List Item
+    its = node_items dec (code_in x.loads) a.scratch kept.edges
+
     -- the fragment of each kept node stands
-    fragment_at : (b : ℕ) (y : Insn) (len : ℕ) → IsKept b → Stands rows facts x fit.plain b y len → FragmentAt dec kept.edges lay place new.mem b (wrap (b + len)) y
-    fragment_at b y len node s =
-        let nodes : List ℕ = sorted kept.nodes in
-        let in_order : has_node nodes b ≡ true = has_node-sorted kept.nodes b ∙ node in
-        let f : Found rows facts dec (code_in x.loads) kept.edges new.mem at nodes a.code b =
-        found rows facts dec (code_in x.loads) kept.edges new.mem at nodes a.code b are.fill (all_spelled rows facts x kept fit) (IsAscending-sorted kept.nodes) in_order code_bytes in
-        let n : ℕ = wrap (b + len) in
-        let next : n < 2 ^ 32 = wrapped (b + len) s.low in
-        let whole : List Item = items_of kept.edges b n y in
-        let its : List Item = trimmed f.following whole in
-        let within : Label → ℕ = address_within rows at (place b) its in
-        let same : items rows facts dec (code_in x.loads) kept.edges b f.following ≡ its = ap (λ d. trimmed f.following (items_for kept.edges b d)) s.spelled in
-        let B : List Item → Type 0 = λ l. BytesAt new.mem (place b) (items_bytes rows at (place b) l) in
-        let S : List Item → Type 0 = λ l. AllSpelled rows (address_within rows at (place b) l) (place b) l in
-        let top : place b + 512 ≤ 0x70000000 = below (place b) a.stubs (node_count kept) a.stop (place_below rows facts x kept fit.room b) (stubs_room dec x kept fit.room) (stop_low rows facts x kept fit.room fit.plain) in
-        let few : items_len rows its ≤ 32 = at_most (items_len rows its) (items_len rows whole) (length-trimmed rows f.following whole) (length-items_of rows facts kept.edges b n y) in
-        let stand : ItemsAt rows new.mem within (place b) its = items_stand rows facts new.mem executed_bytes within (place b) its (subst B same f.bytes) (subst S same f.spelled) (far (place b) (items_len rows its) top few) in
-        fragment_stands rows kept.edges lay place new.mem within (λ c. refl) (λ c. refl) b n y f.following
-        (λ c e. ap (λ l. place b + items_len rows l) (sym same) ∙ (f.next c e).1) next (place_in_code rows facts x kept fit.room b node)
-        (fit.transfers b node y len s.spelled) (third f.following b n y) stand
-      where
-        wrapped : (v : ℕ) → v ≤ 0x70000000 → wrap v < 2 ^ 32
-        wrapped v h = omega arith
+    module _ (b : ℕ) (node : IsKept b) where
+      spot : Found its (node_some dec (code_in x.loads) a.scratch kept.edges) Each 0 (sorted kept.nodes) b
+      spot = found its (node_some dec (code_in x.loads) a.scratch kept.edges) Each (sorted kept.nodes) 0 b (IsAscending-sorted kept.nodes) (has_node-sorted kept.nodes b ∙ node) all_items
 
-        below : (p stubs n stop : ℕ) → p + 512 ≤ stubs → stubs + 24 * n ≤ stop → stop ≤ 0x70000000 → p + 512 ≤ 0x70000000
-        below p stubs n stop h k l = omega arith
+      abbrev own : ℕ → ℕ
+      own k = at (spot.number + k)
 
-        at_most : (u v : ℕ) → u ≤ v → v ≤ 32 → u ≤ 32
-        at_most u v h k = omega arith
+      abbrev far : Addresses
+      far = label_at lay place own
 
-        far : (p l : ℕ) → p + 512 ≤ 0x70000000 → l ≤ 32 → p + l < 2 ^ 64
-        far p l h k = omega arith
+      abbrev trim : List Item
+      trim = trimmed spot.following (its b)
 
-        third : (following : _) (b n : ℕ) (y : Insn) (c : ℕ) → way_of y ≡ BranchesOnRcx c → address_within rows at (place b) (trimmed following (items_of kept.edges b n y)) (label.Item 2) ≡ place b + 7
-        third following b n y c is =
-            let Q : Way → Type 0 = λ v. address_within rows at (place b) (trimmed following (items_by v kept.edges b n y)) (label.Item 2) ≡ place b + 7 in
-            subst Q (sym is) (third_item rows at (place b) following kept.edges b n c y)
+      abbrev slot : Item → Slot
+      slot i = record { item = i; first = spot.number; stop = spot.number + length trim }
+
+      -- what its labels name
+      more : (i : Item) → Extends (label_address frags at (slot i)) far
+      more i (label.Place c) t e = ap (λ o. Some (place_or_zero o)) e
+      more i (label.Stub c) t e = ap Some (stub_beside (sorted kept.nodes) a.stubs c t e)
+      more i (label.Item k) t e = go (nat_le (spot.number + k) (spot.number + length trim)) e
+        where
+          go : (v : Bool) → option_map at (if v then Some (spot.number + k) else None) ≡ Some t → Some (own k) ≡ Some t
+          go true f = f
+          go false f = absurd (cc)
+      more i (label.Table c) t e = absurd (cc)
+      more i label.Routine t e = absurd (cc)
+
+      each_at : (k : ℕ) (l : List Item) → AllFrom Each (spot.number + k) (map slot l) → EachAt dec new.mem far own k l
+      each_at k [] h = tt
+      each_at k (i ∷ l) h =
+          let e : suc (spot.number + k) ≡ spot.number + suc k = omega arith in
+          let here = extended (label_address frags at (slot i)) far (more i) (λ y. InsnAt dec new.mem (at (spot.number + k)) y (at (suc (spot.number + k)))) i h.0 in
+          (subst (λ q. IsSomeAnd (resolved far i) (λ y. InsnAt dec new.mem (own k) y (at q))) e here, each_at (suc k) l (subst (λ n. AllFrom Each n (map slot l)) e h.1))
+
+      begins : own 0 ≡ place b
+      begins = let e : spot.number + 0 ≡ spot.number = omega arith in ap at e ∙ sym (ap (λ o. place_or_zero (option_map at o)) spot.is)
+
+      whole : ItemsFrom dec new.mem far own 0 (place b) (its b)
+      whole =
+          let zero_on : spot.number ≡ spot.number + 0 = omega arith in
+          let each = each_at 0 trim (subst (λ n. AllFrom Each n (list_slots spot.number trim)) zero_on spot.pass) in
+          let ends : (c : ℕ) → spot.following ≡ Some c → own (0 + length trim) ≡ place c =
+          λ c f. let e : spot.number + (0 + length trim) ≡ spot.number + length trim = omega arith in ap at e ∙ sym (ap (λ o. place_or_zero (option_map at o)) (spot.next c f)) in
+          subst (λ p. ItemsFrom dec new.mem far own 0 p (its b)) begins (whole_stands dec new.mem far own place (λ c. refl) spot.following 0 (its b) ends each)
+
+      inside : IsInside lay.code (place b)
+      inside = subst (IsInside lay.code) begins (from_base a.code _, lower (own 0) (code_end rows frags a.code forms) a.stubs before code_below)
+        where
+          from_base : (b o : ℕ) → b ≤ b + o
+          from_base b o = omega arith
+
+          lower : (p e t : ℕ) → p ≤ e → e < t → p < t
+          lower p e t h k = omega arith
+
+          few : spot.number ≤ length (slots_from 0 frags.list ++ [])
+          few = go spot.number (length trim) (item_count frags.list) _ spot.within (ap length (append-nil (slots_from 0 frags.list)) ∙ slots_long 0 frags.list)
+            where
+              go : (n l c s : ℕ) → n + l ≤ 0 + c → s ≡ c → n ≤ s
+              go n l c s h e = omega (arith, h, e)
+
+          before : own 0 ≤ code_end rows frags a.code forms
+          before =
+              let d : ℕ = length (slots_from 0 frags.list ++ []) - spot.number in
+              let e : spot.number + d ≡ length (slots_from 0 frags.list ++ []) = fill_up spot.number (length (slots_from 0 frags.list ++ [])) few in
+              let f : spot.number + 0 ≡ spot.number = omega arith in
+              let h = ascends rows frags a.code forms spot.number d in
+              let P : ℕ → Type 0 = λ n. at (spot.number + 0) ≤ at n in
+              subst P e (subst (λ n. at n ≤ at (spot.number + d)) (sym f) (up a.code _ _ h))
+            where
+              up : (b u v : ℕ) → u ≤ v → b + u ≤ b + v
+              up b u v h = omega (arith, h)
+
+              fill_up : (n l : ℕ) → n ≤ l → n + (l - n) ≡ l
+              fill_up n l h = omega (arith, h)
+
+      fragment_at : (y : Insn) (len : ℕ) → Stands rows facts x fit.plain b y len → FragmentAt dec kept.edges lay place (bound b) new.mem b (wrap (b + len)) y
+      fragment_at y len s =
+          let n : ℕ = wrap (b + len) in
+          let low : n < 2 ^ 31 = wrapped (b + len) s.low in
+          let reach : is_out_of_reach (decodeds.Insn y len) ≡ false = ap is_out_of_reach (sym s.spelled) ∙ in_reach dec (code_in x.loads) (sorted kept.nodes) b fit.reach (has_node-sorted kept.nodes b ∙ node) in
+          let same : its b ≡ items_of a.scratch kept.edges b n y = ap (items_for a.scratch kept.edges b) s.spelled in
+          record {
+            items = items_of a.scratch kept.edges b n y;
+            own = own;
+            simulates = items_simulate rows facts x kept a.scratch page node_low fit.plausible.stands.ends b n y low (names_low y reach) (_, b, s.spells);
+            stand = subst (ItemsFrom dec new.mem far own 0 (place b)) same whole;
+            inside = inside;
+          }
+        where
+          wrapped : (v : ℕ) → v ≤ 0x70000000 → wrap v < 2 ^ 31
+          wrapped v h = omega arith
 
     -- a kept node's stub begins with UD2
     stub_at : (b : ℕ) → IsKept b → InsnAt dec new.mem (lay.stub b) insn.Ud2 (lay.stub b + 2)
     stub_at b node =
         let p : ℕ = lay.stub b in
-        let fill : List ℕ = replicate (a.stop - a.stubs - length (all_stubs (sorted kept.nodes))) 0xcc in
-        let bytes : BytesAt new.mem a.stubs (all_stubs (sorted kept.nodes) ++ fill) = subst (BytesAt new.mem a.stubs) are.parts_added.stubs stub_bytes in
-        let low : p + 2 < 2 ^ 64 = far p (label_low rows facts x kept fit.room fit.plain (label.Stub b)) in
-        let there : BytesAt new.mem p (0x0f ∷ 0x0b ∷ []) = stub_found new.mem a.stubs b (sorted kept.nodes) fill (has_node-sorted kept.nodes b ∙ node) bytes in
-        let is : spelling rows insn.Ud2 p ≡ 0x0f ∷ 0x0b ∷ [] = ap bytes_or_none (facts.emits.ud2 p) in
-        let P : List ℕ → Type 0 = λ l. BytesAt new.mem p l → p + length l < 2 ^ 64 → InsnAt dec new.mem p insn.Ud2 (p + length l) in
-        subst P is (λ h l. insn_of_spelling rows facts new.mem executed_bytes p insn.Ud2 h (ud2_spelled rows facts p) l) there low
+        let pad : List ℕ = replicate (a.stop - a.stubs - length (all_stubs (sorted kept.nodes))) 0xcc in
+        let bytes : BytesAt new.mem a.stubs (all_stubs (sorted kept.nodes) ++ pad) = subst (BytesAt new.mem a.stubs) are.parts_added.stubs stubs_there_new in
+        let there : BytesAt new.mem p (0x0f ∷ 0x0b ∷ []) = stub_found new.mem a.stubs b (sorted kept.nodes) pad (has_node-sorted kept.nodes b ∙ node) bytes in
+        let low : p + 2 < 2 ^ 64 = far a.stubs (index_of (sorted kept.nodes) b) (node_count kept) a.stop (index_low (sorted kept.nodes) b) (stubs_room dec x kept fit.room) top in
+        insn_of_bytes dec new.mem p insn.Ud2 (0x0f ∷ 0x0b ∷ []) there (omega arith) low (executed p) (facts.back insn.Ud2 p Near (0x0f ∷ 0x0b ∷ []) (facts.emits.ud2 p))
       where
-        far : (p : ℕ) → p < 2 ^ 31 → p + 2 < 2 ^ 64
-        far p h = omega arith
+        far : (t i n stop : ℕ) → i ≤ n → t + 24 * n ≤ stop → stop ≤ 0x70000000 → t + 24 * i + 2 < 2 ^ 64
+        far t i n stop h g j = omega arith
 
     -- so the new memory has a placement of what is kept
-    placement : IsPlacement dec x kept lay place new.mem
+    placement : IsPlacement dec x kept lay place bound new.mem
     placement =
         record {
-          fragments = λ b node y len fetched. fragment_at b y len node (stands rows facts x fit.plain b y len fetched);
+          fragments = λ b node y len fetched. fragment_at b node y len (stands rows facts x fit.plain b y len fetched);
           stubs = λ b node. (lay.stub b + 2, stub_at b node);
+          scratch = scratch_page;
         }
 
-  pub placed_written : IsPlaced dec x w kept lay place
+  pub placed_written : IsPlaced dec x w kept lay place bound
   placed_written =
       let below = stop_below dec x kept fit.heap in
-      let stop = (lie dec x kept fit.room parts entry are.parts_added).stop in
+      let stop = where_parts_lie.stop in
       record {
         begins = are.begins;
         first_break = refl;
@@ -203,14 +338,6 @@ module _ (rows : List Row) (facts : TableFacts rows) (x : Image) (kept : Kept) (
         placement = placement;
       }
 
-  module _ (input : Input) where
-    both : KeepsRun dec kept.edges lay (start x input) (start w input) × Paced dec kept.edges lay (λ b. 3) (start x input) (start w input)
-    both = placements_keep dec x w kept lay place fit.plausible x_fixed w_fixed placed_written input
-
-    -- the new file's run keeps the old one's
-    pub keeps_written : KeepsRun dec kept.edges lay (start x input) (start w input)
-    keeps_written = both.0
-
-    -- with one to three steps for each
-    pub paced_written : Paced dec kept.edges lay (λ b. 3) (start x input) (start w input)
-    paced_written = both.1
+  -- the new file's run keeps the old one's, with one to so many steps for each
+  pub both_written : (input : Input) → KeepsRun dec kept.edges lay (start x input) (start w input) × Paced dec kept.edges lay bound (start x input) (start w input)
+  both_written input = placements_keep dec x w kept lay place bound fit.plausible x_fixed w_fixed placed_written input

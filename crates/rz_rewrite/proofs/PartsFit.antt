@@ -15,7 +15,7 @@ use Rattle.rz_machine.specs.WrittenFile.{IsAdded, Inert}
 use Rattle.rz_rewrite.specs.Refusals.{added_size, no_room_for}
 use Rattle.rz_rewrite.specs.Rewritten.{HasRoom}
 use Rattle.rz_rewrite.proofs.Parts.{Lie}
-use Rattle.rz_rewrite.proofs.RewrittenLaws.{lie, length-stubs_part}
+use Rattle.rz_rewrite.proofs.PartRoom.{lie, length-stubs_part}
 
 -- the first cause doesn't hold
 not_low : (b : Bool) (r : Room) (rest : Option Room) → (if b then Some r else rest) ≡ None → b ≡ false

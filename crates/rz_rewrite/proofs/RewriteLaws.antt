@@ -1,103 +1,165 @@
 -- The new file of an accepted file: what it is made of, and that it keeps the file's runs.
-use Rattle.std.proofs.Common.{◌≡◌, ℕ, ◌<◌, List, length, Option, None, sym, ap, ◌∙◌, subst}
-use Rattle.std.specs.Prelude.{slice_index}
+use Rattle.std.proofs.Common.{◌≡◌, ℕ, ◌+◌, ◌*◌, ◌-◌, ◌<◌, ◌≤◌, Bool, true, false, ◌||◌, ◌==◌, List, [], ◌∷◌, length, map, Option, None, refl, sym, ap, ap₂, ◌∙◌, subst, subst₂, arith, eq-eqb, eqb-true, ne_eqb}
 use Rattle.std.specs.List.{AllByRecursion}
-use Rattle.rz_elf.specs.Elf.{Image, image_of}
-use Rattle.rz_elf.specs.Loaded.{ElfFile, IsRead}
-use Rattle.rz_elf.specs.PlainImage.{IsPlainImage}
-use Rattle.rz_elf.specs.AddedRange.{tables_size, code_size, stubs_size, parts_below}
-use Rattle.rz_elf.specs.Room.{extent_of, no_room}
-use Rattle.rz_elf.specs.WrittenFile.{Parts, new_image}
-use Rattle.rz_elf.specs.Laws.Loads.{loaded_image}
-use Rattle.rz_elf.specs.Laws.PlainAccepted.{accepted_plain}
+use Rattle.std.proofs.lemmas.Bool.{cond-true, cond-false}
 use Rattle.rz_isa.specs.declared.rows.Row.{Row}
 use Rattle.rz_isa.specs.Decoded.{decoded}
 use Rattle.rz_isa.specs.Nodes.{Decoder}
-use Rattle.rz_rewrite.specs.Calls.Table.{TableFacts}
-use Rattle.rz_machine.specs.Kept.{Kept, Edges, sorted}
+use Rattle.rz_isa.specs.Plan.{code_end, IsPlan, IsLeastPlan}
+use Rattle.rz_image.specs.Memory.{zeros}
+use Rattle.rz_image.specs.Laws.Zeros.{length-zeros}
+use Rattle.rz_elf.specs.Elf.{fault_of, Image, image_of}
+use Rattle.rz_elf.specs.AddedRange.{Added, stub_size, tables_size, code_size, stubs_size, parts_below, all_stubs, filled}
+use Rattle.rz_elf.specs.PlainImage.{IsPlainImage}
+use Rattle.rz_elf.specs.Room.{extent_of, no_room}
+use Rattle.rz_elf.specs.WrittenFile.{Parts, new_image, written_file}
+use Rattle.rz_machine.specs.Added.{sites, site_edges, node_count, site_count, site_edge_count, added, layout_of, index_of}
+use Rattle.rz_machine.specs.Keeps.{KeepsRun}
+use Rattle.rz_machine.specs.Kept.{Kept, Edges, has_node, sorted, sorted_edges, IsAscending}
 use Rattle.rz_machine.specs.Nodes.{code_in}
-use Rattle.rz_machine.specs.Added.{node_count, site_count, site_edge_count, added, layout_of}
-use Rattle.rz_machine.specs.Keeps.{Keeps, KeepsRun}
 use Rattle.rz_machine.specs.Placement.{IsPlaced}
 use Rattle.rz_machine.specs.Start.{start, HasHeapRoom}
-use Rattle.rz_machine.proofs.StartHeap.{read_room}
+use Rattle.rz_machine.proofs.SetLaws.{IsAscending-sorted}
+use Rattle.rz_emit.specs.Emitted.{code_bytes, filled as filled_code}
 use Rattle.rz_rewrite.specs.declared.added.AddedRange.{AddedRange}
-use Rattle.rz_rewrite.specs.Calls.Plan.{IsPlanned, kept_set}
-use Rattle.rz_rewrite.specs.Laws.Sites.{no_sites, no_site_edges}
-use Rattle.rz_rewrite.specs.Places.{range_of}
+use Rattle.rz_rewrite.specs.declared.code.NewCode.{NewCode}
+use Rattle.rz_rewrite.specs.declared.rewrite.New.{New}
+use Rattle.rz_rewrite.specs.Fragments.{stub_pairs}
 use Rattle.rz_rewrite.specs.Reach.{first_out_of_reach}
 use Rattle.rz_rewrite.specs.Refusals.{rip_reach_of, no_room_for, size_for}
-use Rattle.rz_rewrite.specs.Rewritten.{CanRewrite, HasNoTransfers, IsInReach, IsFit, HasPlacement, IsRewritten, place_of}
-use Rattle.rz_rewrite.proofs.ByteLists.{each_byte}
-use Rattle.rz_rewrite.proofs.PartsFit.{has_room}
-use Rattle.rz_rewrite.proofs.KeepsWritten.{placed_written, keeps_written}
+use Rattle.rz_rewrite.specs.Rewritten.{CanRewrite, IsFit, IsRewritten, fragments_of, place_by}
+use Rattle.rz_rewrite.specs.Calls.Plan.{range_of, IsPlanned, IsNewCode, IsNew}
+use Rattle.rz_rewrite.specs.Calls.Table.{TableFacts}
+use Rattle.rz_rewrite.proofs.KeepsWritten.{bound, placed_written, both_written}
+use Rattle.rz_rewrite.proofs.NewCodeLaws.{entry_inside}
+use Rattle.rz_rewrite.proofs.Parts.{length-filled}
+use Rattle.rz_rewrite.proofs.PartsFit.{inert_of}
+use Rattle.rz_rewrite.proofs.Planned.{fit_of}
 
--- what is read of a file loads a plain image
-pub plain_read : (elf : ElfFile) (bytes : List ℕ) → IsRead elf → bytes ≡ elf.bytes → ((i : ℕ) → slice_index bytes i < 256) → IsPlainImage (image_of elf.bytes)
-plain_read elf bytes is same each = accepted_plain elf.bytes (subst (AllByRecursion (λ b. b < 256)) same (each_byte bytes each)) is.accepted
+-- the stubs of ascending nodes, each with its rank
+rank_pairs : (l : List ℕ) (p : ℕ) (f : ℕ → ℕ) → IsAscending l → ((a : ℕ) → has_node l a ≡ true → p + stub_size * index_of l a ≡ f a) → stub_pairs p l ≡ map (λ a. (a, f a)) l
+rank_pairs [] p f up is = refl
+rank_pairs (c ∷ l) p f up is = ap₂ (λ q r. (c, q) ∷ r) first (rank_pairs l (p + stub_size) f up.1 rest)
+  where
+    first : p ≡ f c
+    first =
+        let zero_on : index_of (c ∷ l) c ≡ 0 = cond-true (c == c) _ _ (eq-eqb c c refl) in
+        let e : p + stub_size * index_of (c ∷ l) c ≡ p = omega (arith, zero_on) in
+        sym e ∙ is c (ap (λ v. v || has_node l c) (eq-eqb c c refl))
 
--- and leaves room for a heap
-pub heap_read : (elf : ElfFile) → IsRead elf → HasHeapRoom (image_of elf.bytes)
-heap_read elf is = subst HasHeapRoom (loaded_image elf is) (read_room elf is)
+    above : (nodes : List ℕ) → AllByRecursion (λ b. c < b) nodes → (b : ℕ) → has_node nodes b ≡ true → c < b
+    above [] h b e = cc
+    above (d ∷ nodes) h b e = go (d == b) refl e (above nodes h.1 b)
+      where
+        go : (v : Bool) → (d == b) ≡ v → (v || has_node nodes b) ≡ true → (has_node nodes b ≡ true → c < b) → c < b
+        go true f e ih = let g : d ≡ b = eqb-true d b f in let k = h.0 in omega (arith, g, k)
+        go false f e ih = ih e
 
--- what is planned is fit
-pub fit_of : (dec : Decoder) (x : List ℕ) (nodes : List ℕ) (edges : Edges) (r : AddedRange) → IsPlanned dec x nodes edges r → IsFit dec (image_of x) (kept_set nodes edges)
-fit_of dec x nodes edges r q =
-    record { plain = q.plain; heap = q.heap; plausible = q.plausible; transfers = q.transfers; reach = q.reach; room = has_room dec x (kept_set nodes edges) q.room }
+    rest : (a : ℕ) → has_node l a ≡ true → p + stub_size + stub_size * index_of l a ≡ f a
+    rest a m =
+        let less = above l up.0 a m in
+        let next : index_of (c ∷ l) a ≡ 1 + index_of l a = cond-false (c == a) _ _ (ne_eqb c a (λ e. omega (arith, less, e))) in
+        let e : p + stub_size + stub_size * index_of l a ≡ p + stub_size * index_of (c ∷ l) a = omega (arith, next) in
+        e ∙ is a (or_true (c == a) m)
+      where
+        or_true : (u : Bool) → has_node l a ≡ true → (u || has_node l a) ≡ true
+        or_true true h = refl
+        or_true false h = h
 
-module _ (rows : List Row) (facts : TableFacts rows) (x w : List ℕ) (kept : Kept) (fit : IsFit (decoded rows) (image_of x) kept) (parts : Parts) (entry : ℕ) (are : IsRewritten rows (image_of x) kept parts entry)
-    (image : image_of w ≡ new_image (image_of x) parts entry) (new_plain : IsPlainImage (new_image (image_of x) parts entry)) where
-  abbrev written_dec : Decoder
-  written_dec = decoded rows
+-- parts of such sizes, code and stubs
+pub record AreParts (range : AddedRange) (nodes : List ℕ) (code : NewCode) (parts : Parts) : Type 0 where
+  pub base : parts.base ≡ range.scratch
+  pub tables : parts.tables ≡ zeros (range.code - range.tables)
+  pub code_is : parts.code ≡ code.bytes
+  pub stubs : parts.stubs ≡ filled (range.stop - range.stubs) (all_stubs nodes)
 
-  pub placed_file : HasPlacement written_dec x w kept
-  placed_file =
-      let P : Image → Type 0 = λ i. IsPlaced written_dec (image_of x) i kept (layout_of written_dec (image_of x) kept) (place_of rows (image_of x) kept) in
-      (place_of rows (image_of x) kept, subst P (sym image) (placed_written rows facts (image_of x) kept parts entry fit are new_plain))
+module _ (rows : List Row) (facts : TableFacts rows) (x : List ℕ) (kept : Kept) (range : AddedRange) (q : IsPlanned (decoded rows) x kept range) (code : NewCode) (is : IsNewCode rows (image_of x) kept range code)
+    (parts : Parts) (are : AreParts range (sorted kept.nodes) code parts) where
+  abbrev dec : Decoder
+  dec = decoded rows
 
-  pub kept_file : Keeps written_dec x w kept
-  kept_file input valid =
-      let P : Image → Type 0 = λ i. KeepsRun written_dec kept.edges (layout_of written_dec (image_of x) kept) (start (image_of x) input) (start i input) in
-      subst P (sym image) (keeps_written rows facts (image_of x) kept parts entry fit are new_plain input)
+  abbrev a : Added
+  a = added dec (image_of x) kept
+
+  fit : IsFit dec (image_of x) kept
+  fit = fit_of dec x kept range q
+
+  code_at : range.code ≡ a.code
+  code_at = ap (λ (b : Added). b.code) q.range_is
+
+  stubs_at : range.stubs ≡ a.stubs
+  stubs_at = ap (λ (b : Added). b.stubs) q.range_is
+
+  -- what the parts are
+  pub rewritten : IsRewritten rows (image_of x) kept parts code.entry is.forms
+  rewritten =
+      let inside = entry_inside rows facts (image_of x) kept fit range q.range_is code is in
+      let bytes : parts.code ≡ filled_code (a.stubs - a.code) (code_bytes rows (fragments_of dec (image_of x) kept) a.code is.forms) =
+      are.code_is ∙ is.bytes ∙ ap₂ (λ c s. filled_code (s - c) (code_bytes rows (fragments_of dec (image_of x) kept) c is.forms)) code_at stubs_at in
+      record {
+        parts_added = record {
+          base = are.base ∙ ap (λ (b : Added). b.scratch) q.range_is;
+          tables = ap length are.tables ∙ length-zeros (range.code - range.tables) ∙ ap (λ (b : Added). b.code - b.tables) q.range_is;
+          code = ap length bytes ∙ length-filled (a.stubs - a.code) (code_bytes rows (fragments_of dec (image_of x) kept) a.code is.forms) inside.2;
+          stubs = are.stubs ∙ ap (λ (b : Added). filled (b.stop - b.stubs) (all_stubs (sorted kept.nodes))) q.range_is;
+          entry_from = inside.0;
+          entry_below = inside.1;
+        };
+        plan = subst (λ c. IsPlan rows (fragments_of dec (image_of x) kept) c is.forms) code_at is.plan;
+        least = subst (λ c. IsLeastPlan rows (fragments_of dec (image_of x) kept) c is.forms) code_at is.least;
+        ends = subst₂ (λ c s. code_end rows (fragments_of dec (image_of x) kept) c is.forms + 512 ≤ s) code_at stubs_at is.ends;
+        code = bytes;
+        begins = is.entry ∙ ap (λ c. place_by rows (fragments_of dec (image_of x) kept) c is.forms (image_of x).entry) code_at;
+      }
+
+  -- the file that is written with them
+  module _ (w : List ℕ) (file : w ≡ written_file x parts code.entry) (accepted : fault_of w ≡ None) (image : image_of w ≡ new_image (image_of x) parts code.entry) (new_plain : IsPlainImage (new_image (image_of x) parts code.entry)) where
+    pub new_is : (new : New) → new.bytes ≡ w → new.base ≡ range.scratch → new.places ≡ code.places → new.stubs ≡ code.stubs → IsNew rows x kept range new
+    new_is new bytes base places stubs =
+        let i : Image = image_of x in
+        let same : image_of new.bytes ≡ new_image i parts code.entry = ap image_of bytes ∙ image in
+        let P : Image → Type 0 = λ j. IsPlaced dec i j kept (layout_of dec i kept) (place_by rows (fragments_of dec i kept) a.code is.forms) (bound rows facts i kept parts code.entry is.forms fit rewritten new_plain) in
+        let K : Image → Type 0 = λ j. (input : _) → KeepsRun dec kept.edges (layout_of dec i kept) (start i input) (start j input) in
+        record {
+          placed = (
+            place_by rows (fragments_of dec i kept) a.code is.forms,
+            bound rows facts i kept parts code.entry is.forms fit rewritten new_plain,
+            places ∙ is.places ∙ ap (λ c. map (λ b. (b, place_by rows (fragments_of dec i kept) c is.forms b)) (sorted kept.nodes)) code_at,
+            subst P (sym same) (placed_written rows facts i kept parts code.entry is.forms fit rewritten new_plain),
+          );
+          stubs = stubs ∙ is.stubs ∙ ap (λ s. stub_pairs s (sorted kept.nodes)) stubs_at ∙ rank_pairs (sorted kept.nodes) a.stubs (λ b. (layout_of dec i kept).stub b) (IsAscending-sorted kept.nodes) (λ b m. refl);
+          code = record { parts = parts; entry = code.entry; forms = is.forms; rewritten = rewritten; file = bytes ∙ file };
+          keeps = λ input valid. subst K (sym same) (λ input. (both_written rows facts i kept parts code.entry is.forms fit rewritten new_plain input).0) input;
+          inert = inert_of dec x new.bytes kept parts code.entry rewritten.parts_added (bytes ∙ file) (ap fault_of bytes ∙ accepted) same;
+          base = base;
+        }
+
+-- ---- what is measured of a kept set, by its sorted lists
 
 -- the first of the nodes in order whose operand is out of reach
-pub first_reach : (dec : Decoder) (x : List ℕ) (kept : Kept) (nodes : List ℕ) → nodes ≡ kept.nodes → sorted kept.nodes ≡ kept.nodes
-    → (r : Option ℕ) → r ≡ first_out_of_reach dec (code_in (image_of x).loads) nodes → rip_reach_of dec x kept ≡ r
-first_reach dec x kept nodes same order r is = ap (first_out_of_reach dec (code_in (image_of x).loads)) (order ∙ sym same) ∙ sym is
+pub reach_is : (dec : Decoder) (x : List ℕ) (kept : Kept) (nodes : List ℕ) → nodes ≡ sorted kept.nodes → (r : Option ℕ) → r ≡ first_out_of_reach dec (code_in (image_of x).loads) nodes → rip_reach_of dec x kept ≡ r
+reach_is dec x kept nodes same r is = ap (first_out_of_reach dec (code_in (image_of x).loads)) (sym same) ∙ sym is
 
--- where no transfer is kept there are no sites: sizes and places are those of the nodes alone
-module _ (dec : Decoder) (x : List ℕ) (kept : Kept) (can : CanRewrite dec (image_of x) kept) (none : HasNoTransfers dec (image_of x) kept) (nodes : List ℕ) (same : nodes ≡ kept.nodes) (order : sorted kept.nodes ≡ kept.nodes) where
-  abbrev n : ℕ
-  n = length nodes
+module _ (dec : Decoder) (x : List ℕ) (kept : Kept) (nodes : List ℕ) (edges : Edges) (nodes_are : nodes ≡ sorted kept.nodes) (edges_are : edges ≡ sorted_edges kept.edges)
+    (j e : ℕ) (j_is : j ≡ length (sites dec (code_in (image_of x).loads) nodes)) (e_is : e ≡ length (site_edges dec (code_in (image_of x).loads) edges)) where
+  n_same : length nodes ≡ node_count kept
+  n_same = ap length nodes_are
 
-  pub count_is : n ≡ node_count kept
-  count_is = ap length (same ∙ sym order)
+  j_same : j ≡ site_count dec (image_of x) kept
+  j_same = j_is ∙ ap (λ l. length (sites dec (code_in (image_of x).loads) l)) nodes_are
 
-  sites_none : 0 ≡ site_count dec (image_of x) kept
-  sites_none = ap length (sym (no_sites dec (image_of x) kept can none))
+  e_same : e ≡ site_edge_count dec (image_of x) kept
+  e_same = e_is ∙ ap (λ l. length (site_edges dec (code_in (image_of x).loads) l)) edges_are
 
-  edges_none : 0 ≡ site_edge_count dec (image_of x) kept
-  edges_none = ap length (sym (no_site_edges dec (image_of x) kept can none))
+  -- why there is no room
+  pub room_is : no_room (extent_of x) (size_for (length nodes) j e) ≡ no_room_for dec x kept
+  room_is = λ i. no_room (extent_of x) (size_for (n_same i) (j_same i) (e_same i))
 
-  pub room_is : no_room (extent_of x) (size_for n 0 0) ≡ no_room_for dec x kept
-  room_is = λ i. no_room (extent_of x) (size_for (count_is i) (sites_none i) (edges_none i))
+  -- and where the parts lie
+  pub range_is : parts_below (tables_size j e) (code_size (length nodes) j e) (stubs_size (length nodes)) (extent_of x).floor ≡ added dec (image_of x) kept
+  range_is = λ i. parts_below (tables_size (j_same i) (e_same i)) (code_size (n_same i) (j_same i) (e_same i)) (stubs_size (n_same i)) (extent_of x).floor
 
-  pub range_is : parts_below (tables_size 0 0) (code_size n 0 0) (stubs_size n) (extent_of x).floor ≡ added dec (image_of x) kept
-  range_is = λ i. parts_below (tables_size (sites_none i) (edges_none i)) (code_size (count_is i) (sites_none i) (edges_none i)) (stubs_size (count_is i)) (extent_of x).floor
-
-  set_is : kept_set nodes kept.edges ≡ kept
-  set_is = ap (λ l. kept_set l kept.edges) same
-
-  -- so they are planned
-  pub planned : (r : AddedRange) → IsPlainImage (image_of x) → HasHeapRoom (image_of x) → rip_reach_of dec x kept ≡ None → no_room (extent_of x) (size_for n 0 0) ≡ None
-      → range_of r ≡ parts_below (tables_size 0 0) (code_size n 0 0) (stubs_size n) (extent_of x).floor → IsPlanned dec x nodes kept.edges r
-  planned r plain heap reach free is = record {
-    plain = plain;
-    heap = heap;
-    plausible = subst (λ k. CanRewrite dec (image_of x) k) (sym set_is) can;
-    transfers = subst (λ k. HasNoTransfers dec (image_of x) k) (sym set_is) none;
-    reach = subst (λ k. IsInReach dec (image_of x) k) (sym set_is) reach;
-    order = same ∙ sym order ∙ ap sorted (sym same);
-    room = ap (no_room_for dec x) set_is ∙ sym room_is ∙ free;
-    range_is = is ∙ range_is ∙ ap (added dec (image_of x)) (sym set_is);
-  }
+  pub planned : (r : AddedRange) → IsPlainImage (image_of x) → HasHeapRoom (image_of x) → CanRewrite dec (image_of x) kept → rip_reach_of dec x kept ≡ None → no_room (extent_of x) (size_for (length nodes) j e) ≡ None
+      → range_of r ≡ parts_below (tables_size j e) (code_size (length nodes) j e) (stubs_size (length nodes)) (extent_of x).floor → IsPlanned dec x kept r
+  planned r plain heap can reach free is =
+      record { plain = plain; heap = heap; plausible = can; reach = reach; room = sym room_is ∙ free; range_is = is ∙ range_is }

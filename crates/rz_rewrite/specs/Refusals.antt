@@ -8,8 +8,8 @@ use Rattle.rz_elf.specs.Room.{extent_of, no_room}
 use Rattle.rz_machine.specs.Kept.{Kept, sorted}
 use Rattle.rz_machine.specs.Nodes.{code_in}
 use Rattle.rz_machine.specs.Added.{node_count, site_count, site_edge_count}
-use Rattle.rz_rewrite.specs.declared.rewrite.Refusal.{Refusal}
-use Rattle.rz_rewrite.specs.declared.rewrite.Refusal.TheVariants as refusal
+use Rattle.rz_rewrite.specs.declared.refusal.Refusal.{Refusal}
+use Rattle.rz_rewrite.specs.declared.refusal.Refusal.TheVariants as refusal
 use Rattle.rz_rewrite.specs.Reach.{first_out_of_reach}
 
 -- the least kept address whose instruction names an address of 2^31 or more relative to RIP, if there is one

@@ -1,12 +1,13 @@
-//! Laws over the definitions alone.
+//! What the rewriter uses of a table of instructions.
 
 ghost use Rattle.rz_rewrite.specs.Calls.Table.{TableFacts};
-ghost use Rattle.rz_rewrite.specs.Rewritten.{RewrittenKeeps, RewrittenPaced, FragmentsFit, PlacesInCode};
 
 use rz_decode::laws::decoded_laws;
 use rz_encode::laws::{canonical_lengths, decodes_back};
+use rz_frag::laws::{fragments_are_sized, fragments_simulate};
 use rz_isa::InsnTable;
-use rz_isa::laws::{emits, lengths, spelled_elsewhere};
+use rz_isa::laws::{emits, lengths};
+use rz_sites::laws::{sites_are_sized, sites_simulate};
 
 // What the rewriter uses of a table.
 pub(crate) fn table_facts<T: InsnTable>()
@@ -17,22 +18,8 @@ pub(crate) fn table_facts<T: InsnTable>()
     canonical_lengths::<T>();
     lengths::<T>();
     emits::<T>();
-    spelled_elsewhere::<T>();
-}
-
-/// A file whose parts hold the fragments and the stubs of the kept nodes keeps each run of the original, with
-/// one to three steps for each step of it.
-pub fn fragments_keep<T: InsnTable>()
-    ensures keeps { RewrittenKeeps T.rows }
-    ensures paced { RewrittenPaced T.rows 3 }
-{
-    table_facts::<T>();
-}
-
-/// The fragments fit the code part, and those of the kept nodes lie in it.
-pub fn fragments_fit<T: InsnTable>()
-    ensures fit { FragmentsFit T.rows }
-    ensures inside { PlacesInCode T.rows }
-{
-    table_facts::<T>();
+    fragments_simulate::<T>();
+    fragments_are_sized::<T>();
+    sites_simulate::<T>();
+    sites_are_sized::<T>();
 }

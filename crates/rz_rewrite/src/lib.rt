@@ -1,10 +1,12 @@
-//! The rewriter: items and fragments of kept instructions, their places and bytes, and the new file.
+//! The rewriter: the new file of a file, for what is kept of it.
 #![tactic(auto)]
 
-pub mod added;
-pub mod emit;
-pub mod fragment;
-pub mod items;
-pub mod law;
-pub mod layout;
+mod added;
+mod code;
+mod fragments;
+mod law;
+pub mod nodes;
+pub mod refusal;
 pub mod rewrite;
+mod stubs;
+mod targets;

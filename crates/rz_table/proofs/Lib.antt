@@ -1,4 +1,2 @@
 pub mod Covered
 pub mod ProfileClasses
-pub mod EarlyClasses
-mod Gap

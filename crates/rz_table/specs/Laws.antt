@@ -1,3 +1,1 @@
 pub mod ProfileEmits
-pub mod EarlyEmits
-pub mod EarlyLaws

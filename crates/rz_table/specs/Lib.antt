@@ -1,5 +1,4 @@
 pub mod Index
-pub mod EarlyRows
 pub mod Listing
 pub mod Worked
 pub mod Decoded

@@ -1,4 +1,4 @@
-use Rattle.std.specs.Prelude.{ℕ, ◌+◌, ◌*◌, List, [], ◌∷◌, ◌++◌, map, drop, Option, Some, None, true, false}
+use Rattle.std.specs.Prelude.{ℕ, ◌+◌, ◌*◌, List, [], ◌∷◌, ◌++◌, map, Option, Some, None, true, false}
 use Rattle.rz_flags.specs.declared.ArithOp.{ArithOp}
 use Rattle.rz_flags.specs.declared.ArithOp.TheVariants as ariths
 use Rattle.rz_flags.specs.declared.UnaryOp.TheVariants as unaries
@@ -231,11 +231,7 @@ calls =
 abbrev pub ends : List (List Row)
 ends = opcodes Two No N None ((0x05, ops.Syscall) ∷ []) ∷ opcodes Two No N None ((0x0b, ops.Ud2) ∷ []) ∷ one (line One No N None (plain 0xf4) ops.Hlt) ∷ one (line One No N None (plain 0xcc) ops.Int3) ∷ []
 
--- ---- the tables
+-- ---- the table
 
 abbrev pub profile_rows : List Row
 profile_rows = joined ariths_rows ++ joined moves ++ joined operations ++ joined jumps ++ joined calls ++ joined ends
-
--- profile 1 without calls, jumps through operands and returns
-abbrev pub early_rows : List Row
-early_rows = joined ariths_rows ++ joined moves ++ joined operations ++ joined jumps ++ joined (drop 5 calls) ++ joined ends

@@ -21,7 +21,6 @@ use Rattle.rz_isa.specs.Canonical.{canonical}
 use Rattle.rz_isa.specs.Emitted.{has_lookup}
 use Rattle.rz_isa.specs.Spells.{Spells}
 use Rattle.rz_table.specs.declared.profile_rows.TheConstants.{PROFILE}
-use Rattle.rz_table.specs.EarlyRows.{early}
 
 -- Rows of profile 1, evaluated.
 
@@ -271,10 +270,9 @@ push_of_four_bytes = refl
 
 -- ---- of the lookup routine
 
--- profile 1 has transfers that are looked up, the table without them none
-profile_has_lookup : (has_lookup PROFILE ≡ true) × (has_lookup early ≡ false)
-unfolding early
-profile_has_lookup = (refl, refl)
+-- profile 1 has transfers that are looked up
+profile_has_lookup : has_lookup PROFILE ≡ true
+profile_has_lookup = refl
 
 shift_right_once : canonical PROFILE (insns.Shift shifts.Shr W32 (places.Reg (regs.R 1)) (counts.Imm 1)) 0x1000 forms.Near ≡ Some (0xd1 ∷ 0xe9 ∷ [])
 shift_right_once = refl

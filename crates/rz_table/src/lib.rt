@@ -50,14 +50,11 @@ macro_rules! row {
     };
 }
 
-mod early;
-mod early_index;
 mod index;
 mod profile;
 mod profile_index;
 mod profile_rows;
 
-pub use early::Early;
 pub use profile::Profile1;
 
 #[cfg(test)]

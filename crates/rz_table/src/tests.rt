@@ -1,4 +1,4 @@
-use crate::{Early, Profile1};
+use crate::Profile1;
 use rz_flags::Cond;
 use rz_isa::{Fields, InsnTable, Kind, Place, Reg, build, fields_of, kind};
 use rz_num::Width;
@@ -21,8 +21,7 @@ fn last_row_is_found_again(rt: HostRuntime) {
 }
 
 #[test]
-fn tables_have_their_rows(rt: HostRuntime) {
+fn table_has_its_rows(rt: HostRuntime) {
     assert_eq!(rt; Profile1::count(), 203);
-    assert_eq!(rt; Early::count(), 198);
     assert_eq!(rt; Cond::from_number(4).number(), 4);
 }

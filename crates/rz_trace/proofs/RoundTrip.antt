@@ -9,7 +9,7 @@ use Rattle.rz_text.specs.Lines.{Line, lines, lines_from}
 use Rattle.rz_text.specs.Fault.{first_fault}
 use Rattle.rz_text.proofs.LineLaws.{lines-ended}
 use Rattle.rz_aset.specs.declared.kept.Record.{Record}
-use Rattle.rz_aset.specs.Sets.{edge_cmp, has, is_same_edge, with_address, with_edge}
+use Rattle.rz_aset.specs.Sets.{edge_cmp, has, has_edge, is_same_edge, with_address, with_edge}
 use Rattle.rz_trace.specs.declared.entry.Entry.{Entry}
 use Rattle.rz_trace.specs.declared.entry.Entry.TheVariants.{Begin, Node, Edge, End}
 use Rattle.rz_trace.specs.Order.{edge_follows, end_follows, fits, node_follows}
@@ -62,22 +62,22 @@ no_fault earlier n (e ∷ es) kept last final h k l chain =
 
 -- ---- members of ascending lists are new
 
-module _ {X : Type 0} (E : X → X → Bool) (flips : (x y : X) → E x y ≡ E y x) where
+module _ {X : Type 0} (E : X → X → Bool) where
   -- each of a list is new behind others
   abbrev pub Fresh : List X → List X → Type 0
-  Fresh done xs = AllByRecursion (λ y. list_any (E y) done ≡ false) xs × IsDistinct E xs
+  Fresh done xs = AllByRecursion (λ y. list_any (λ z. E z y) done ≡ false) xs × IsDistinct E xs
 
-  none_more : (done : List X) (x : X) (xs : List X) → AllByRecursion (λ y. list_any (E y) done ≡ false) xs → AllByRecursion (λ y. E x y ≡ false) xs
-      → AllByRecursion (λ y. list_any (E y) (done ++ x ∷ []) ≡ false) xs
+  none_more : (done : List X) (x : X) (xs : List X) → AllByRecursion (λ y. list_any (λ z. E z y) done ≡ false) xs → AllByRecursion (λ y. E x y ≡ false) xs
+      → AllByRecursion (λ y. list_any (λ z. E z y) (done ++ x ∷ []) ≡ false) xs
   none_more done x [] h k = tt
   none_more done x (y ∷ ys) h k =
-      (list_any-append (E y) done (x ∷ []) ∙ rw (h.0, flips y x, k.0) refl, none_more done x ys h.1 k.1)
+      (list_any-append (λ z. E z y) done (x ∷ []) ∙ rw (h.0, k.0) refl, none_more done x ys h.1 k.1)
 
   pub Fresh-more : (done : List X) (x : X) (xs : List X) → Fresh done (x ∷ xs) → Fresh (done ++ x ∷ []) xs
   unfolding IsDistinct
   Fresh-more done x xs h = (none_more done x xs h.0.1 h.1.0, h.1.1)
 
-  none_before : (xs : List X) → AllByRecursion (λ y. list_any (E y) [] ≡ false) xs
+  none_before : (xs : List X) → AllByRecursion (λ y. list_any (λ z. E z y) [] ≡ false) xs
   none_before [] = tt
   none_before (x ∷ xs) = (refl, none_before xs)
 
@@ -161,24 +161,24 @@ record_with nodes edges = record { nodes = nodes; edges = edges }
 node_new : (done : List ℕ) (x : ℕ) → has done x ≡ false → with_address done x ≡ done ++ x ∷ []
 node_new done x h = rw h refl
 
-edge_new : (done : List (ℕ × ℕ)) (x : ℕ × ℕ) → list_any (is_same_edge x) done ≡ false → with_edge done x ≡ done ++ x ∷ []
+edge_new : (done : List (ℕ × ℕ)) (x : ℕ × ℕ) → has_edge done x ≡ false → with_edge done x ≡ done ++ x ∷ []
 edge_new done x h = rw h refl
 
-chain_nodes : (xs done : List ℕ) (last : Option Entry) (rest : List Entry) (final : Record) → NodesFit last xs → Fresh nat_eq nat_eq-flips done xs → IsEarly last
+chain_nodes : (xs done : List ℕ) (last : Option Entry) (rest : List Entry) (final : Record) → NodesFit last xs → Fresh nat_eq done xs → IsEarly last
     → ((l : Option Entry) → IsEarly l → Chain (record_with (done ++ xs) []) l rest final)
     → Chain (record_with done []) last (map (λ at. Node at) xs ++ rest) final
 chain_nodes [] done last rest final fit fresh early next = rw (append-nil done) at (next last early)
 chain_nodes (x ∷ xs) done last rest final fit fresh early next =
     let new = node_new done x fresh.0.0 in (
       fit.0,
-      rw new (chain_nodes xs (done ++ x ∷ []) (Some (Node x)) rest final fit.1 (Fresh-more nat_eq nat_eq-flips done x xs fresh) tt
+      rw new (chain_nodes xs (done ++ x ∷ []) (Some (Node x)) rest final fit.1 (Fresh-more nat_eq done x xs fresh) tt
           (λ l e. rw (append_assoc done (x ∷ []) xs) (next l e))),
     )
 
 abbrev pub HasBoth : List ℕ → ℕ × ℕ → Type 0
 HasBoth nodes edge = (has nodes edge.0 ≡ true) × (has nodes edge.1 ≡ true)
 
-chain_edges : (nodes : List ℕ) (ys done : List (ℕ × ℕ)) (last : Option Entry) → EdgesFit last ys → Fresh is_same_edge same_edge-flips done ys
+chain_edges : (nodes : List ℕ) (ys done : List (ℕ × ℕ)) (last : Option Entry) → EdgesFit last ys → Fresh is_same_edge done ys
     → AllByRecursion (HasBoth nodes) ys → end_follows last ≡ true
     → Chain (record_with nodes done) last (map (λ edge. Edge edge.0 edge.1) ys ++ End ∷ []) (record_with nodes (done ++ ys))
 chain_edges nodes [] done last fit fresh ends over = (over, ap (record_with nodes) (sym (append-nil done)))
@@ -187,14 +187,14 @@ chain_edges nodes (y ∷ ys) done last fit fresh ends over =
     let follows = fit.0 in
     let from = ends.0.0 in
     let to = ends.0.1 in
-    (rw (follows, from, to) refl, rw new (rw (append_assoc done (y ∷ []) ys) at (chain_edges nodes ys (done ++ y ∷ []) (Some (Edge y.0 y.1)) fit.1 (Fresh-more is_same_edge same_edge-flips done y ys fresh) ends.1 refl)))
+    (rw (follows, from, to) refl, rw new (rw (append_assoc done (y ∷ []) ys) at (chain_edges nodes ys (done ++ y ∷ []) (Some (Edge y.0 y.1)) fit.1 (Fresh-more is_same_edge done y ys fresh) ends.1 refl)))
 
 chain_all : (nodes : List ℕ) (edges : List (ℕ × ℕ)) → IsSorted nat_cmp nodes → IsDistinct nat_eq nodes → IsSorted edge_cmp edges → IsDistinct is_same_edge edges
     → AllByRecursion (HasBoth nodes) edges → Chain no_record None (entries_of nodes edges) (record_with nodes edges)
 chain_all nodes edges s d t e ends = (
   refl,
-  chain_nodes nodes [] (Some Begin) (map (λ (edge : ℕ × ℕ). Edge edge.0 edge.1) edges ++ End ∷ []) (record_with nodes edges) (nodes_fit nodes s d) (Fresh-start nat_eq nat_eq-flips nodes d) tt
-      (λ l early. chain_edges nodes edges [] l (edges_fit l edges early t e) (Fresh-start is_same_edge same_edge-flips edges e) ends (end_early l early)),
+  chain_nodes nodes [] (Some Begin) (map (λ (edge : ℕ × ℕ). Edge edge.0 edge.1) edges ++ End ∷ []) (record_with nodes edges) (nodes_fit nodes s d) (Fresh-start nat_eq nodes d) tt
+      (λ l early. chain_edges nodes edges [] l (edges_fit l edges early t e) (Fresh-start is_same_edge edges e) ends (end_early l early)),
 )
 
 -- ---- the round trip
@@ -250,7 +250,7 @@ words_small (x ∷ xs) h = (h 0, words_small xs (λ i. h (suc i)))
 both_permuted : (xs ys : List ℕ) (edges : List (ℕ × ℕ)) → IsPermutation xs ys → AllByRecursion (HasBoth xs) edges → AllByRecursion (HasBoth ys) edges
 both_permuted xs ys [] p h = tt
 both_permuted xs ys (e ∷ es) p h =
-    ((sym (list_any-IsPermutation (nat_eq e.0) xs ys p) ∙ h.0.0, sym (list_any-IsPermutation (nat_eq e.1) xs ys p) ∙ h.0.1), both_permuted xs ys es p h.1)
+    ((sym (list_any-IsPermutation (λ z. z == e.0) xs ys p) ∙ h.0.0, sym (list_any-IsPermutation (λ z. z == e.1) xs ys p) ∙ h.0.1), both_permuted xs ys es p h.1)
 
 pub read_back : (kept : Record) (text nodes : List ℕ) (edges : List (ℕ × ℕ)) → text ≡ text_of nodes edges → IsSorted nat_cmp nodes → IsSorted edge_cmp edges
     → IsPermutation kept.nodes nodes → IsPermutation kept.edges edges → IsDistinct nat_eq kept.nodes → IsDistinct is_same_edge kept.edges

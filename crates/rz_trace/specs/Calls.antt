@@ -1,1 +1,3 @@
+pub mod Begun
+pub mod Memo
 pub mod Printing

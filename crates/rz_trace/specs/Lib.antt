@@ -3,4 +3,5 @@ pub mod Fault
 pub mod Grammar
 pub mod Order
 pub mod Printed
+pub mod Traced
 pub mod Value

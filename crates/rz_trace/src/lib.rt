@@ -1,15 +1,20 @@
-//! Trace files: the texts of recorded nodes and edges.
+//! Traces: what runs use, and trace files, the texts of recorded nodes and edges.
 #![tactic(auto)]
 
 mod entry;
 mod error;
 mod line;
+mod memo;
 mod printer;
 mod reader;
+mod tracer;
 
 pub use error::TraceFault;
 pub use printer::print_trace;
 pub use reader::read_trace;
+pub use tracer::{TraceRefusal, trace};
 
 #[cfg(test)]
 mod tests;
+#[cfg(test)]
+mod tracer_tests;

@@ -1,16 +1,12 @@
 -- What is made of a file and inputs, and when it is refused.
-use Rattle.std.specs.Prelude.{◌≡◌, ℕ, List, length}
+use Rattle.std.specs.Prelude.{◌≡◌, ℕ, List}
 use Rattle.rz_outside.specs.StoreCalls.{StoreCalls, Held}
-use Rattle.rz_elf.specs.Elf.{Image}
 use Rattle.rz_sys.specs.declared.input.Input.{Input}
-use Rattle.rz_machine.specs.Kept.{Kept}
-use Rattle.rz_machine.specs.Added.{added}
 use Rattle.rz_core.specs.declared.making.Made.{Made}
 use Rattle.rz_core.specs.declared.status.Status.{Status}
 use Rattle.rz_core.specs.declared.status.Status.TheVariants as status
 use Rattle.rz_core.specs.Kinds.{Kind, Done, TextLost, FileLost, NoMemory, Refused, kind_of}
-use Rattle.rz_core.specs.Decoding.{decode_early}
-use Rattle.rz_core.specs.Texts.{report_text}
+use Rattle.rz_core.specs.Decoding.{decode_profile}
 use Rattle.rz_core.specs.Reading.{Course, HoldAll}
 use Rattle.rz_core.specs.Command.{Command}
 use Rattle.rz_machine.specs.LeftCode.{LeavesCode}
@@ -34,13 +30,9 @@ MakeRefusal limit x inputs answer = EndRefusal (DebloatEnds limit x inputs) answ
 
 -- why the run on the input of this number wasn't recorded whole: it left the code, or there was no memory
 abbrev pub RunRefusal : ℕ → ℕ → List ℕ → Input → Status → Type 0
-RunRefusal number limit x input (status.LeftCode n address) = (n ≡ number) × LeavesCode decode_early limit (traced x input) address
+RunRefusal number limit x input (status.LeftCode n address) = (n ≡ number) × LeavesCode decode_profile limit (traced x input) address
 RunRefusal number limit x input status.OutOfMemory = Unit {0}
 RunRefusal number limit x input _ = ⊥
-
--- the report of a kept set without sites
-abbrev pub plain_report : Image → Kept → List ℕ
-plain_report x kept = report_text (added decode_early x kept).scratch (length kept.edges) (length kept.nodes) 0 0
 
 -- what is made of the files that a command reads
 pub record IsMade (c : Command) (s : StoreCalls) (m : Made) : Type 0 where

@@ -10,4 +10,4 @@ returns-in-Ok-clause-made c =
 
 pub returns-in-Ok-clause-report : goal.returns-in-Ok-clause-report
 returns-in-Ok-clause-report c =
-    report_is c.args.elf.now.bytes c.args.limit c.args.inputs.now (kept_in c.in_ok-kept.kept) c.in-Ok.made.report c.in_ok-kept.ensures.plausible c.in_ok-kept.ensures.kept c.in-Ok.ensures.report
+    report_is c.args.elf.now.bytes c.args.limit c.args.inputs.now (kept_in c.in_ok-kept.kept) c.in-Ok.made.report c.in_ok-kept.ensures.kept c.in-Ok.ensures.report

@@ -1,8 +1,9 @@
 use Rattle.std.proofs.Common.{ap, subst, ◌∙◌, refl}
 use Rattle.rz_elf.specs.Loaded.{ElfFile, IsRead, loaded}
-use Rattle.rz_machine.specs.Traced.{kept_in, IsRefused}
+use Rattle.rz_machine.specs.Traced.{kept_in}
+use Rattle.rz_trace.specs.Traced.{IsRefused}
 use Rattle.rz_machine.specs.declared.machine.Machine.{Machine}
-use Rattle.rz_core.specs.Decoding.{decode_early}
+use Rattle.rz_core.specs.Decoding.{decode_profile}
 use Rattle.rz_machine.specs.LeftCode.{LeavesCode, StaysInCode}
 use Rattle.rz_machine.specs.Start.{start}
 use Rattle.rz_core.proofs.MadeLaws.{added_is, plausible, traced_is}
@@ -22,11 +23,11 @@ returns-in-Ok-clause-plausible c =
 pub returns-in-Ok-clause-stays : goal.returns-in-Ok-clause-stays
 returns-in-Ok-clause-stays c =
     let is : IsRead c.args.elf.now = subst IsRead c.elf.view_is c.elf.invariant in
-    subst (StaysInCode decode_early c.args.limit) (traced_is c.args.elf.now is c.args.input.now) c.in-Ok.ensures.stays
+    subst (StaysInCode decode_profile c.args.limit) (traced_is c.args.elf.now is c.args.input.now) c.in-Ok.ensures.stays
 
 pub returns-in-Err-LeftCode-clause-err : goal.returns-in-Err-LeftCode-clause-err
 returns-in-Err-LeftCode-clause-err c =
     let is : IsRead c.args.elf.now = subst IsRead c.elf.view_is c.elf.invariant in
     let s : Machine = start (loaded c.args.elf.now) c.args.input.now in
-    let refused = subst (IsRefused decode_early c.args.limit s (kept_in c.args.kept.now) (kept_in c.trace.new.rec)) c.in-Err-LeftCode.field-0-is c.in-Err-LeftCode.ensures.refused in
-    (refl, subst (λ (t : Machine). LeavesCode decode_early c.args.limit t c.in-Err-LeftCode.address) (traced_is c.args.elf.now is c.args.input.now) refused.0)
+    let refused = subst (IsRefused decode_profile c.args.limit s (kept_in c.args.kept.now) (kept_in c.trace.new.rec)) c.in-Err-LeftCode.field-0-is c.in-Err-LeftCode.ensures.refused in
+    (refl, subst (λ (t : Machine). LeavesCode decode_profile c.args.limit t c.in-Err-LeftCode.address) (traced_is c.args.elf.now is c.args.input.now) refused.0)

@@ -1,7 +1,7 @@
 use Rattle.std.proofs.Common.{◌≡◌, ◌++◌, length, drop}
 use Rattle.rz_isa.specs.Items.{slots_from}
 use Rattle.rz_layout.specs.Layout.{nodes_of}
-use Rattle.rz_layout.specs.Calls.Ordered.{starts_from}
+use Rattle.rz_layout.specs.Order.{starts_from}
 use Rattle.rz_layout.proofs.order.in_order.Given as goal
 
 abbrev pub invariant-loop-fragment : goal.invariant-loop-fragment

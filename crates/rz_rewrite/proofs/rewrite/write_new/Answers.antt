@@ -1,56 +1,74 @@
-use Rattle.std.proofs.Common.{◌<◌, subst}
+use Rattle.std.proofs.Common.{◌-◌, ◌<◌, List, length, refl, ap, ◌∙◌, subst, arith}
 use Rattle.std.specs.List.{AllByRecursion}
+use Rattle.rz_isa.specs.declared.rows.Row.{Row}
 use Rattle.rz_isa.specs.Decoded.{decoded}
+use Rattle.rz_elf.specs.AddedRange.{Added, all_stubs, filled}
 use Rattle.rz_elf.specs.Elf.{image_of}
 use Rattle.rz_elf.specs.PlainImage.{IsPlainImage}
 use Rattle.rz_elf.specs.Laws.PlainAccepted.{accepted_plain}
-use Rattle.rz_rewrite.specs.Calls.Plan.{kept_set}
+use Rattle.rz_machine.specs.Kept.{Kept, sorted}
+use Rattle.rz_machine.specs.Traced.{kept_in}
+use Rattle.rz_rewrite.specs.declared.rewrite.New.{New}
 use Rattle.rz_rewrite.proofs.ByteLists.{each_byte}
 use Rattle.rz_rewrite.proofs.NodeCount.{nodes_some}
-use Rattle.rz_rewrite.proofs.PartsFit.{are_pages, end_at_floor, entry_in_code, has_room_for_parts, inert_of}
-use Rattle.rz_rewrite.proofs.RewriteLaws.{fit_of, placed_file, kept_file}
+use Rattle.rz_rewrite.proofs.PartRoom.{stubs_room}
+use Rattle.rz_rewrite.proofs.PartsFit.{are_pages, end_at_floor, entry_in_code, has_room, has_room_for_parts}
+use Rattle.rz_rewrite.proofs.RewriteLaws.{AreParts, rewritten, new_is}
 use Rattle.rz_rewrite.proofs.rewrite.write_new.Goals as goal
+
+pub parts_with-requires-clause-tables : goal.parts_with-requires-clause-tables
+parts_with-requires-clause-tables g c =
+    let q = c.requires.can in
+    let code = ap (λ (a : Added). a.code) q.range_is in
+    let tables = ap (λ (a : Added). a.tables) q.range_is in
+    omega (arith, code, tables)
+
+pub parts_with-requires-clause-stubs : goal.parts_with-requires-clause-stubs
+parts_with-requires-clause-stubs g c =
+    let q = c.requires.can in
+    let x = c.args.elf.now.bytes in
+    let kept : Kept = kept_in c.args.kept.now in
+    let room = stubs_room (decoded g.T.InsnTable.rows) (image_of x) kept (has_room (decoded g.T.InsnTable.rows) x kept q.room) in
+    let stubs = ap (λ (a : Added). a.stubs) q.range_is in
+    let stop = ap (λ (a : Added). a.stop) q.range_is in
+    let count = ap length c.requires.nodes in
+    omega (arith, room, stubs, stop, count)
 
 pub write_elf-requires : goal.write_elf-requires
 write_elf-requires g c =
-    let dec = decoded g.T.InsnTable.rows in
+    let rows : List Row = g.T.InsnTable.rows in
+    let dec = decoded rows in
     let q = c.requires.can in
     let x = c.args.elf.now.bytes in
-    let kept = kept_set c.args.nodes.now c.args.edges.now in
-    let new = c.in_ok-parts.field-0 in
+    let kept : Kept = kept_in c.args.kept.now in
     let some = nodes_some dec (image_of x) kept q.plausible in
-    let are = c.in_ok-parts.ensures.parts_added in
+    let made : AreParts c.args.range.now (sorted kept.nodes) c.in_ok-code.code c.in_ok-parts.parts = record {
+      base = c.in_ok-parts.ensures.base;
+      tables = c.in_ok-parts.ensures.tables;
+      code_is = c.in_ok-parts.ensures.code;
+      stubs = c.in_ok-parts.ensures.stubs ∙ ap (λ l. filled (c.args.range.now.stop - c.args.range.now.stubs) (all_stubs l)) c.requires.nodes;
+    } in
+    let are = (rewritten rows c.table_facts.ensures x kept c.args.range.now q c.in_ok-code.code c.in_ok-code.ensures c.in_ok-parts.parts made).parts_added in
     record {
-      pages = are_pages dec x kept q.room some new.parts new.entry are;
-      below = end_at_floor dec x kept q.room some new.parts new.entry are;
-      entry = entry_in_code dec x kept q.room some new.parts new.entry are;
-      room = has_room_for_parts dec x kept q.room some new.parts new.entry are;
+      pages = are_pages dec x kept q.room some c.in_ok-parts.parts c.in_ok-code.code.entry are;
+      below = end_at_floor dec x kept q.room some c.in_ok-parts.parts c.in_ok-code.code.entry are;
+      entry = entry_in_code dec x kept q.room some c.in_ok-parts.parts c.in_ok-code.code.entry are;
+      room = has_room_for_parts dec x kept q.room some c.in_ok-parts.parts c.in_ok-code.code.entry are;
     }
 
-pub returns-clause-placed : goal.returns-clause-placed
-returns-clause-placed g c =
-    let rows = g.T.InsnTable.rows in
+pub returns : goal.returns
+returns g c =
+    let rows : List Row = g.T.InsnTable.rows in
+    let q = c.requires.can in
     let x = c.args.elf.now.bytes in
-    let kept = kept_set c.args.nodes.now c.args.edges.now in
-    let new = c.in_ok-parts.field-0 in
+    let kept : Kept = kept_in c.args.kept.now in
+    let made : AreParts c.args.range.now (sorted kept.nodes) c.in_ok-code.code c.in_ok-parts.parts = record {
+      base = c.in_ok-parts.ensures.base;
+      tables = c.in_ok-parts.ensures.tables;
+      code_is = c.in_ok-parts.ensures.code;
+      stubs = c.in_ok-parts.ensures.stubs ∙ ap (λ l. filled (c.args.range.now.stop - c.args.range.now.stubs) (all_stubs l)) c.requires.nodes;
+    } in
     let file = c.in_ok-bytes.ensures in
     let plain : IsPlainImage (image_of c.in_ok-bytes.bytes) = accepted_plain c.in_ok-bytes.bytes (subst (AllByRecursion (λ b. b < 256)) c.as_slice.ensures.value (each_byte _ c.are_bytes.ensures.each)) file.accepted in
-    placed_file rows c.table_facts.ensures x c.in_ok-bytes.bytes kept (fit_of (decoded rows) x kept.nodes kept.edges c.args.range.now c.requires.can) new.parts new.entry c.in_ok-parts.ensures file.image (subst IsPlainImage file.image plain)
-
-pub returns-clause-keeps : goal.returns-clause-keeps
-returns-clause-keeps g c =
-    let rows = g.T.InsnTable.rows in
-    let x = c.args.elf.now.bytes in
-    let kept = kept_set c.args.nodes.now c.args.edges.now in
-    let new = c.in_ok-parts.field-0 in
-    let file = c.in_ok-bytes.ensures in
-    let plain : IsPlainImage (image_of c.in_ok-bytes.bytes) = accepted_plain c.in_ok-bytes.bytes (subst (AllByRecursion (λ b. b < 256)) c.as_slice.ensures.value (each_byte _ c.are_bytes.ensures.each)) file.accepted in
-    kept_file rows c.table_facts.ensures x c.in_ok-bytes.bytes kept (fit_of (decoded rows) x kept.nodes kept.edges c.args.range.now c.requires.can) new.parts new.entry c.in_ok-parts.ensures file.image (subst IsPlainImage file.image plain)
-
-pub returns-clause-inert : goal.returns-clause-inert
-returns-clause-inert g c =
-    let x = c.args.elf.now.bytes in
-    let kept = kept_set c.args.nodes.now c.args.edges.now in
-    let new = c.in_ok-parts.field-0 in
-    let file = c.in_ok-bytes.ensures in
-    inert_of (decoded g.T.InsnTable.rows) x c.in_ok-bytes.bytes kept new.parts new.entry c.in_ok-parts.ensures.parts_added file.file file.accepted file.image
+    let new : New = record { bytes = c.in_ok-bytes.bytes; base = c.args.range.now.scratch; places = c.in_ok-code.code.places; stubs = c.in_ok-code.code.stubs } in
+    new_is rows c.table_facts.ensures x kept c.args.range.now q c.in_ok-code.code c.in_ok-code.ensures c.in_ok-parts.parts made c.in_ok-bytes.bytes file.file file.accepted file.image (subst IsPlainImage file.image plain) new refl refl refl refl

@@ -1,0 +1,6 @@
+pub mod Beside
+pub mod Offsets
+pub mod Addresses
+pub mod Bytes
+pub mod Chosen
+pub mod Worked

@@ -1,0 +1,9 @@
+//! Fragments: the items that stand for each kept instruction that is no site.
+#![tactic(auto)]
+
+pub mod laws;
+mod sequence;
+#[cfg(test)]
+mod tests;
+
+pub use sequence::fragment;

@@ -1,0 +1,18 @@
+use Rattle.std.proofs.Common.{rules, ◌≡◌, ℕ, ◌-◌, List, ltb, leb, length, take, drop, map, ap, sym, subst, arith}
+use Rattle.std.specs.List.Sorted.{IsNonDecreasingBy}
+use Rattle.std.proofs.lemmas.List.{take_all, length-drop}
+use Rattle.std.proofs.lemmas.List.Sorted.{IsPartitionPoint-from_clause, IsPartitionedBy-leb, IsPartitionedBy-ltb, IsNonDecreasingBy-drop}
+use Rattle.rz_rewrite.proofs.TargetRange.{slice_is}
+use Rattle.rz_rewrite.proofs.targets.targets_from.Goals as goal
+
+pub loop-to-init : goal.loop-to-init
+loop-to-init c =
+    let edges : List (ℕ × ℕ) = c.args.edges.now in
+    let first : ℕ = c.partition_point-first.result in
+    let rest : List (ℕ × ℕ) = take (length edges - first) (drop first edges) in
+    let same : rest ≡ drop first edges = take_all (length edges - first) (drop first edges) (omega (arith, length-drop first edges)) in
+    let ascends = subst (IsNonDecreasingBy (λ e. e.0)) (sym same) (IsNonDecreasingBy-drop (λ e. e.0) first edges c.requires) in
+    let front = IsPartitionPoint-from_clause (λ e. ltb e.0 c.args.at) edges first c.partition_point-first.ensures.partitioned (IsPartitionedBy-ltb (λ e. e.0) edges c.args.at c.requires) (λ a r q k. search rules) in
+    let back = IsPartitionPoint-from_clause (λ e. leb e.0 c.args.at) rest c.partition_point-count.result c.partition_point-count.ensures.partitioned (IsPartitionedBy-leb (λ e. e.0) rest c.args.at ascends) (λ a r q k. search rules) in
+    let found = slice_is c.args.at edges first c.partition_point-count.result rest same front back in
+    rw c.new-words.ensures (ap (map (λ e. e.1)) found)

@@ -1,0 +1,8 @@
+mod Appended
+mod Checked
+mod Moved
+mod Simulated
+mod Sized
+mod Stored
+mod Steps
+mod Transfers
