@@ -39,8 +39,8 @@ pub fn fragment<T: InsnTable>(
         f.items ≡ fragment_items (has_edge kept.now.edges at) at (at + len) insn.now) }
     ensures simulates { IfOk result (λ f. (scratch : ℕ)
         → Simulates (decoded T.rows) scratch 64 (has_edge kept.now.edges at) at (at + len) insn.now f.items) }
-    ensures sized { IfOk result (λ f. (bytes : List ℕ) (b : ℕ) → Spells T.rows bytes b insn.now → NamesLow insn.now
-        → IsSized T.rows f.items 32) }
+    ensures sized { IfOk result (λ f. (bytes : List ℕ) (b : ℕ) → Spells T.rows bytes b insn.now
+        → NamesLow insn.now → IsSized T.rows f.items 32) }
 {
     fragments_simulate::<T>();
     fragments_are_sized::<T>();

@@ -52,7 +52,8 @@ pub fn rewrite<T: InsnTable>(alloc: Global, elf: &Elf, kept: &Record) -> Result<
     requires plausible { CanRewrite (decoded T.rows) (image_of elf.now.bytes) (kept_in kept.now) }
     ensures placed { IfOk result (λ new.
         HasPlacement (decoded T.rows) elf.now.bytes new.bytes (kept_in kept.now) new.places) }
-    ensures stubs { IfOk result (λ new. new.stubs ≡ stubs_of (decoded T.rows) elf.now.bytes (kept_in kept.now)) }
+    ensures stubs { IfOk result (λ new.
+        new.stubs ≡ stubs_of (decoded T.rows) elf.now.bytes (kept_in kept.now)) }
     ensures code { IfOk result (λ new. IsNewFile T.rows elf.now.bytes new.bytes (kept_in kept.now)) }
     ensures keeps { IfOk result (λ new. Keeps (decoded T.rows) elf.now.bytes new.bytes (kept_in kept.now)) }
     ensures inert { IfOk result (λ new. Inert (decoded T.rows) elf.now.bytes new.bytes (kept_in kept.now)) }

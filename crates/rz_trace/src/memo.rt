@@ -43,7 +43,8 @@ impl Memo {
 
     /// Whether the memo has an edge. Then the record has it, and the node that it leads to.
     pub fn has(&self, from: u64, to: u64) -> bool
-        ensures { (kept : Kept) → Knows kept self.now → IsTrue result → IsKept kept (record { from = from; to = to }) }
+        ensures { (kept : Kept) → Knows kept self.now → IsTrue result
+            → IsKept kept (record { from = from; to = to }) }
     {
         let index = place(from, to, self.edges.len());
         if index < self.edges.len() {
@@ -55,7 +56,8 @@ impl Memo {
 
     /// Has an edge of the record from now on, where there is memory for it.
     pub fn note(&mut self, alloc: Global, from: u64, to: u64)
-        ensures { (kept : Kept) → Knows kept self.old → IsKept kept (record { from = from; to = to }) → Knows kept self.new }
+        ensures { (kept : Kept) → Knows kept self.old → IsKept kept (record { from = from; to = to })
+            → Knows kept self.new }
     {
         let edge = Edge { from, to };
         let len = self.edges.len();

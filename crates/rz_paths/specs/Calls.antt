@@ -1,0 +1,4 @@
+-- Words of the contracts of inner calls.
+pub mod Sound
+pub mod Inside
+pub mod Listed
