@@ -38,9 +38,9 @@ use Rattle.rz_machine.proofs.PlacedRuns.{placements_keep}
 use Rattle.rz_machine.proofs.SetLaws.{has_node-sorted, IsAscending-sorted}
 use Rattle.rz_machine.proofs.StartCode.{start_code}
 use Rattle.rz_emit.specs.Emitted.{code_bytes}
-use Rattle.rz_rewrite.specs.Fragments.{targets_of, items_of, items_for, node_items, trimmed}
+use Rattle.rz_rewrite.specs.Fragments.{items_of, items_for, node_items, trimmed}
 use Rattle.rz_rewrite.specs.Reach.{is_out_of_reach}
-use Rattle.rz_rewrite.specs.Rewritten.{IsFit, IsRewritten, fragments_of, place_by, place_or_zero}
+use Rattle.rz_rewrite.specs.Rewritten.{IsFit, IsRewritten, bound_of, fragments_of, place_by, place_or_zero}
 use Rattle.rz_rewrite.specs.Calls.Table.{TableFacts}
 use Rattle.rz_rewrite.proofs.HeapRoom.{stop_below, written_room}
 use Rattle.rz_rewrite.proofs.Images.{all_append, stripped_fixed, stripped_same, Whole, code_at, stubs_at, stop_at, scratch_there, code_there, stubs_there, beside, added_fixed}
@@ -76,8 +76,8 @@ module _ (rows : List Row) (facts : TableFacts rows) (x : Image) (kept : Kept) (
   abbrev place : ℕ → ℕ
   place = place_by rows frags a.code forms
 
-  abbrev pub bound : ℕ → ℕ
-  bound b = 64 + 4 * length (targets_of kept.edges b)
+  abbrev bound : ℕ → ℕ
+  bound = bound_of kept
 
   abbrev IsKept : ℕ → Type 0
   IsKept b = has_node kept.nodes b ≡ true

@@ -17,6 +17,7 @@ use Rattle.rz_machine.specs.Added.{sites, site_edges, node_count, site_count, si
 use Rattle.rz_machine.specs.Keeps.{KeepsRun}
 use Rattle.rz_machine.specs.Kept.{Kept, Edges, has_node, sorted, sorted_edges, IsAscending}
 use Rattle.rz_machine.specs.Nodes.{code_in}
+use Rattle.rz_machine.specs.Pace.{Paced}
 use Rattle.rz_machine.specs.Placement.{IsPlaced}
 use Rattle.rz_machine.specs.Start.{start, HasHeapRoom}
 use Rattle.rz_machine.proofs.SetLaws.{IsAscending-sorted}
@@ -27,10 +28,10 @@ use Rattle.rz_rewrite.specs.declared.rewrite.New.{New}
 use Rattle.rz_rewrite.specs.Fragments.{stub_pairs}
 use Rattle.rz_rewrite.specs.Reach.{first_out_of_reach}
 use Rattle.rz_rewrite.specs.Refusals.{rip_reach_of, no_room_for, size_for}
-use Rattle.rz_rewrite.specs.Rewritten.{CanRewrite, IsFit, IsRewritten, fragments_of, place_by}
+use Rattle.rz_rewrite.specs.Rewritten.{CanRewrite, IsFit, IsRewritten, bound_of, fragments_of, place_by}
 use Rattle.rz_rewrite.specs.Calls.Plan.{range_of, IsPlanned, IsNewCode, IsNew}
 use Rattle.rz_rewrite.specs.Calls.Table.{TableFacts}
-use Rattle.rz_rewrite.proofs.KeepsWritten.{bound, placed_written, both_written}
+use Rattle.rz_rewrite.proofs.KeepsWritten.{placed_written, both_written}
 use Rattle.rz_rewrite.proofs.NewCodeLaws.{entry_inside}
 use Rattle.rz_rewrite.proofs.Parts.{length-filled}
 use Rattle.rz_rewrite.proofs.PartsFit.{inert_of}
@@ -118,18 +119,20 @@ module _ (rows : List Row) (facts : TableFacts rows) (x : List ℕ) (kept : Kept
     new_is new bytes base places stubs =
         let i : Image = image_of x in
         let same : image_of new.bytes ≡ new_image i parts code.entry = ap image_of bytes ∙ image in
-        let P : Image → Type 0 = λ j. IsPlaced dec i j kept (layout_of dec i kept) (place_by rows (fragments_of dec i kept) a.code is.forms) (bound rows facts i kept parts code.entry is.forms fit rewritten new_plain) in
+        let P : Image → Type 0 = λ j. IsPlaced dec i j kept (layout_of dec i kept) (place_by rows (fragments_of dec i kept) a.code is.forms) (bound_of kept) in
         let K : Image → Type 0 = λ j. (input : _) → KeepsRun dec kept.edges (layout_of dec i kept) (start i input) (start j input) in
+        let Q : Image → Type 0 = λ j. (input : _) → Paced dec kept.edges (layout_of dec i kept) (bound_of kept) (start i input) (start j input) in
+        let both = both_written rows facts i kept parts code.entry is.forms fit rewritten new_plain in
         record {
           placed = (
             place_by rows (fragments_of dec i kept) a.code is.forms,
-            bound rows facts i kept parts code.entry is.forms fit rewritten new_plain,
             places ∙ is.places ∙ ap (λ c. map (λ b. (b, place_by rows (fragments_of dec i kept) c is.forms b)) (sorted kept.nodes)) code_at,
             subst P (sym same) (placed_written rows facts i kept parts code.entry is.forms fit rewritten new_plain),
           );
+          paced = subst Q (sym same) (λ input. (both input).1);
           stubs = stubs ∙ is.stubs ∙ ap (λ s. stub_pairs s (sorted kept.nodes)) stubs_at ∙ rank_pairs (sorted kept.nodes) a.stubs (λ b. (layout_of dec i kept).stub b) (IsAscending-sorted kept.nodes) (λ b m. refl);
           code = record { parts = parts; entry = code.entry; forms = is.forms; rewritten = rewritten; file = bytes ∙ file };
-          keeps = λ input valid. subst K (sym same) (λ input. (both_written rows facts i kept parts code.entry is.forms fit rewritten new_plain input).0) input;
+          keeps = λ input valid. subst K (sym same) (λ input. (both input).0) input;
           inert = inert_of dec x new.bytes kept parts code.entry rewritten.parts_added (bytes ∙ file) (ap fault_of bytes ∙ accepted) same;
           base = base;
         }

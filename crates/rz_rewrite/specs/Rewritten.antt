@@ -1,5 +1,5 @@
 -- What the added parts hold where a file is rewritten: the fragments and the stubs of the kept nodes.
-use Rattle.std.specs.Prelude.{◌≡◌, ℕ, ◌+◌, ◌-◌, ◌≤◌, List, map, Option, Some, None}
+use Rattle.std.specs.Prelude.{◌≡◌, ℕ, ◌+◌, ◌-◌, ◌*◌, ◌≤◌, List, length, map, Option, Some, None}
 use Rattle.std.specs.Option.{option_map}
 use Rattle.rz_isa.specs.declared.rows.Row.{Row}
 use Rattle.rz_isa.specs.declared.rows.Form.{Form}
@@ -15,12 +15,14 @@ use Rattle.rz_elf.specs.WrittenFile.{Parts, written_file}
 use Rattle.rz_machine.specs.Kept.{Kept, sorted}
 use Rattle.rz_machine.specs.Nodes.{code_in, IsPlausible}
 use Rattle.rz_machine.specs.Added.{node_count, site_count, site_edge_count, added, layout_of}
+use Rattle.rz_machine.specs.Pace.{Paced}
 use Rattle.rz_machine.specs.Placement.{IsPlaced}
-use Rattle.rz_machine.specs.Start.{HasHeapRoom}
+use Rattle.rz_machine.specs.Start.{start, HasHeapRoom}
 use Rattle.rz_machine.specs.WrittenFile.{IsAdded}
 use Rattle.rz_emit.specs.Emitted.{code_bytes, filled}
-use Rattle.rz_rewrite.specs.Fragments.{fragments}
+use Rattle.rz_rewrite.specs.Fragments.{fragments, targets_of}
 use Rattle.rz_rewrite.specs.Reach.{first_out_of_reach}
+use Rattle.rz_sys.specs.declared.input.Input.{Input}
 
 -- ---- what a new file can be written for
 
@@ -86,8 +88,18 @@ pub record IsNewFile (rows : List Row) (x w : List ℕ) (kept : Kept) : Type 0 w
 abbrev pub stubs_of : Decoder → List ℕ → Kept → List (ℕ × ℕ)
 stubs_of dec x kept = map (λ a. (a, (layout_of dec (image_of x) kept).stub a)) (sorted kept.nodes)
 
+-- the most new steps for a step of the original at an address: 64, and four for each target of its site
+abbrev pub bound_of : Kept → ℕ → ℕ
+bound_of kept a = 64 + 4 * length (targets_of kept.edges a)
+
 -- what is loaded of the new file w has the fragment of each kept node where these pairs say, and the stubs in theirs
 abbrev pub HasPlacement : Decoder → List ℕ → List ℕ → Kept → List (ℕ × ℕ) → Type 0
 HasPlacement dec x w kept places =
-    (place bound : ℕ → ℕ) × (places ≡ map (λ a. (a, place a)) (sorted kept.nodes))
-    × IsPlaced dec (image_of x) (image_of w) kept (layout_of dec (image_of x) kept) place bound
+    (place : ℕ → ℕ) × (places ≡ map (λ a. (a, place a)) (sorted kept.nodes))
+    × IsPlaced dec (image_of x) (image_of w) kept (layout_of dec (image_of x) kept) place (bound_of kept)
+
+-- on each input the new file's run follows the original's, with one to so many steps for each of its steps
+abbrev pub IsPaced : Decoder → List ℕ → List ℕ → Kept → Type 0
+IsPaced dec x w kept =
+    (input : Input) → Paced dec kept.edges (layout_of dec (image_of x) kept) (bound_of kept)
+        (start (image_of x) input) (start (image_of w) input)

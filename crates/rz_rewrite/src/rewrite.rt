@@ -11,7 +11,7 @@ ghost use Rattle.rz_machine.specs.Traced.{kept_in};
 ghost use Rattle.rz_machine.specs.WrittenFile.{Inert};
 ghost use Rattle.rz_elf.specs.AddedRange.{all_stubs, filled as filled_with};
 ghost use Rattle.rz_rewrite.specs.Refusals.{IsRefusal, no_room_for, rip_reach_of};
-ghost use Rattle.rz_rewrite.specs.Rewritten.{CanRewrite, HasPlacement, IsNewFile, stubs_of};
+ghost use Rattle.rz_rewrite.specs.Rewritten.{CanRewrite, HasPlacement, IsNewFile, IsPaced, stubs_of};
 ghost use Rattle.rz_rewrite.specs.Calls.Plan.{IsNew, IsPlanned};
 
 use crate::added::{AddedRange, added_range};
@@ -52,6 +52,7 @@ pub fn rewrite<T: InsnTable>(alloc: Global, elf: &Elf, kept: &Record) -> Result<
     requires plausible { CanRewrite (decoded T.rows) (image_of elf.now.bytes) (kept_in kept.now) }
     ensures placed { IfOk result (λ new.
         HasPlacement (decoded T.rows) elf.now.bytes new.bytes (kept_in kept.now) new.places) }
+    ensures paced { IfOk result (λ new. IsPaced (decoded T.rows) elf.now.bytes new.bytes (kept_in kept.now)) }
     ensures stubs { IfOk result (λ new.
         new.stubs ≡ stubs_of (decoded T.rows) elf.now.bytes (kept_in kept.now)) }
     ensures code { IfOk result (λ new. IsNewFile T.rows elf.now.bytes new.bytes (kept_in kept.now)) }

@@ -25,7 +25,7 @@ use Rattle.rz_rewrite.specs.declared.code.NewCode.{NewCode}
 use Rattle.rz_rewrite.specs.declared.rewrite.New.{New}
 use Rattle.rz_rewrite.specs.Fragments.{targets_of, stub_pairs}
 use Rattle.rz_rewrite.specs.Refusals.{no_room_for}
-use Rattle.rz_rewrite.specs.Rewritten.{CanRewrite, IsInReach, HasPlacement, IsNewFile, fragments_of, place_by, stubs_of}
+use Rattle.rz_rewrite.specs.Rewritten.{CanRewrite, IsInReach, HasPlacement, IsPaced, IsNewFile, fragments_of, place_by, stubs_of}
 
 -- where the parts lie
 abbrev pub range_of : AddedRange → Added
@@ -68,6 +68,7 @@ pub record IsNewCode (rows : List Row) (x : Image) (kept : Kept) (range : AddedR
 -- what a new file in such a range has to be
 pub record IsNew (rows : List Row) (x : List ℕ) (kept : Kept) (range : AddedRange) (new : New) : Type 0 where
   pub placed : HasPlacement (decoded rows) x new.bytes kept new.places
+  pub paced : IsPaced (decoded rows) x new.bytes kept
   pub stubs : new.stubs ≡ stubs_of (decoded rows) x kept
   pub code : IsNewFile rows x new.bytes kept
   pub keeps : Keeps (decoded rows) x new.bytes kept
