@@ -4,7 +4,7 @@ use Rattle.rz_outside.specs.StoreCalls.{StoreCalls, Held}
 use Rattle.rz_core.specs.declared.status.Status.{Status}
 use Rattle.rz_core.specs.declared.status.Status.TheVariants as status
 use Rattle.rz_core.specs.Kinds.{Kind, Done, TextLost, FileLost, NoMemory, Refused, kind_of}
-use Rattle.rz_core.specs.Reading.{Demand, Accepted, InputNumber, Wanted, HoldAll, Refuses, ReadRefusal, FileRefusal, Course}
+use Rattle.rz_core.specs.Reading.{Demand, Accepted, ClassFile, InputNumber, Wanted, HoldAll, Refuses, ReadRefusal, FileRefusal, Course}
 
 pub course_map : (ws : List Wanted) (s : StoreCalls) (P Q : Status → Type 0) (st : Status) → (P st → Q st) → Course ws s P st → Course ws s Q st
 course_map [] s P Q st f h = f h
@@ -39,6 +39,7 @@ read_undone name s _ h = absurd h
 
 unfit_undone : (d : Demand) (name x : List ℕ) (st : Status) → Refuses d name x st → IsUndoneAt st
 unfit_undone Accepted name x st h = subst IsUndoneAt (sym h.1) tt
+unfit_undone ClassFile name x st h = subst IsUndoneAt (sym h.1) tt
 unfit_undone (InputNumber k) name x st h = subst IsUndoneAt (sym h.1) tt
 
 file_undone : (w : Wanted) (s : StoreCalls) (st : Status) → FileRefusal w s st → IsUndoneAt st

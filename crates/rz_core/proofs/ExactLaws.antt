@@ -6,12 +6,14 @@ use Rattle.rz_outside.specs.StoreCalls.{StoreCalls, Held}
 use Rattle.rz_outside.specs.SinkCalls.{SinkCalls}
 use Rattle.rz_elf.specs.Elf.{fault_of}
 use Rattle.rz_input.specs.Fault.{fault_of as input_fault_of}
+use Rattle.rz_classes.specs.Fault.{fault_of as class_fault_of}
 use Rattle.rz_core.specs.declared.status.Status.{Status}
 use Rattle.rz_core.specs.declared.status.Status.TheVariants as status
 use Rattle.rz_core.specs.declared.status.Target.TheVariants as target
 use Rattle.rz_core.specs.Kinds.{Kind, Done, TextLost, FileLost, NoMemory, Refused, kind_of}
 use Rattle.rz_core.specs.Inputs.{line_of}
-use Rattle.rz_core.specs.Reading.{Demand, Accepted, InputNumber, Wanted, HoldAll, Meets, Refuses, ReadCause, ReadRefusal, Course}
+use Rattle.rz_core.specs.Classes.{line_of as class_line_of}
+use Rattle.rz_core.specs.Reading.{Demand, Accepted, ClassFile, InputNumber, Wanted, HoldAll, Meets, Refuses, ReadCause, ReadRefusal, Course}
 use Rattle.rz_core.specs.Command.{Command}
 use Rattle.rz_core.specs.Causes.{WriteFails, LastAnswerOf, LastAnswer, CauseIn}
 use Rattle.rz_core.specs.Exact.{IsQuiet, holds, IsAnswered, IsInOrder, EndsExactly, IsExactIn}
@@ -26,11 +28,13 @@ not_both o x e f = let g : Some x ≡ None = sym e ∙ f in cc
 -- what is demanded isn't refused
 fit_not_refused : (d : Demand) (name x : List ℕ) (st : Status) → Meets d x → Refuses d name x st → ⊥
 fit_not_refused Accepted name x st m r = not_both (fault_of x) r.0 r.2 m
+fit_not_refused ClassFile name x st m r = not_both (class_fault_of x) r.0 r.2 m
 fit_not_refused (InputNumber k) name x st m r = not_both (input_fault_of x) r.0 r.2 m
 
 -- and a file is refused in one way
 one_refusal : (d : Demand) (name x : List ℕ) (st other : Status) → Refuses d name x st → Refuses d name x other → st ≡ other
 one_refusal Accepted name x st other a b = a.1 ∙ (ap (λ f. status.Refused name f) (one_value (fault_of x) a.0 b.0 a.2 b.2) ∙ sym b.1)
+one_refusal ClassFile name x st other a b = a.1 ∙ (ap (λ f. status.BadClasses (class_line_of f)) (one_value (class_fault_of x) a.0 b.0 a.2 b.2) ∙ sym b.1)
 one_refusal (InputNumber k) name x st other a b = a.1 ∙ (ap (λ f. status.BadInput k (line_of f)) (one_value (input_fault_of x) a.0 b.0 a.2 b.2) ∙ sym b.1)
 
 -- where nothing fails, a read is refused for a missing name alone

@@ -83,5 +83,11 @@ later_inputs s t [] (x ∷ xs) k told same h = absurd h
 later_inputs s t (n ∷ ns) [] k told same h = absurd h
 later_inputs s t (n ∷ ns) (x ∷ xs) k told same h = (later_held n x s t told same h.0, h.1, later_inputs s t ns xs (suc k) told same h.2)
 
+pub later_all : (s t : StoreCalls) (ws : List Wanted) (xs : List (List ℕ)) → t.told ≡ s.told → SameFiles s.old t.old → HoldAll (Held t) ws xs → HoldAll (Held s) ws xs
+later_all s t [] [] told same h = h
+later_all s t [] (x ∷ xs) told same h = absurd h
+later_all s t (w ∷ ws) [] told same h = absurd h
+later_all s t (w ∷ ws) (x ∷ xs) told same h = (later_held w.name x s t told same h.0, h.1, later_all s t ws xs told same h.2)
+
 pub held_before : (s t : StoreCalls) (name : List ℕ) (input : Input) → t.told ≡ s.told → SameFiles s.old t.old → HoldsInput (Held t) name input → HoldsInput (HeldIn s.told s.old) name input
 held_before s t name input told same h = (h.0, later_held name h.0 s t told same h.1, h.2, h.3)

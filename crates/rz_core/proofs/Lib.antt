@@ -5,7 +5,12 @@ pub mod ExactLaws
 pub mod EndLaws
 pub mod UnionLaws
 pub mod InputLaws
+pub mod SourceLaws
+pub mod SortLaws
+pub mod KeptLaws
 pub mod MadeLaws
 pub mod DebloatLaws
 pub mod RunLaws
+pub mod ReplayLaws
+pub mod DemoLaws
 pub mod FormRows

@@ -1,28 +1,37 @@
 -- What is asked of a file before it is rewritten, and what is made of it.
-use Rattle.std.proofs.Common.{◌≡◌, ℕ, suc, ◌<◌, ◌≤◌, List, [], ◌∷◌, Option, None, Some, sym, ap, ◌∙◌, subst}
+use Rattle.std.proofs.Common.{◌≡◌, ℕ, suc, ◌<◌, ◌≤◌, true, List, [], ◌∷◌, None, sym, ap, ◌∙◌, subst}
 use Rattle.std.specs.Prelude.{slice_index}
 use Rattle.std.specs.List.{AllByRecursion}
 use Rattle.rz_machine.specs.declared.machine.Machine.{Machine}
 use Rattle.rz_sys.specs.declared.input.Input.{Input}
-use Rattle.rz_machine.specs.Kept.{Kept}
+use Rattle.rz_aset.specs.declared.kept.Record.{Record}
+use Rattle.rz_table.specs.declared.profile_rows.TheConstants.{PROFILE}
+use Rattle.rz_machine.specs.Kept.{Kept, has_node, has_edge}
+use Rattle.rz_paths.specs.declared.level.Level.{Level}
+use Rattle.rz_paths.specs.Program.{program_of}
+use Rattle.rz_paths.specs.Levels.{IsWithin, Keeps as KeepsAt}
 use Rattle.rz_image.specs.Memory.{NoSelfWritten}
-use Rattle.rz_elf.specs.declared.room.Room.{Room}
 use Rattle.rz_elf.specs.Elf.{image_of, Image}
 use Rattle.rz_core.specs.Decoding.{decode_profile}
 use Rattle.rz_elf.specs.Loaded.{ElfFile, IsRead, loaded}
 use Rattle.rz_machine.specs.Start.{start}
 use Rattle.rz_machine.specs.Recorded.{StaysPlausible}
 use Rattle.rz_machine.specs.Nodes.{code_in, StandsIn}
-use Rattle.rz_machine.specs.Traced.{with_run}
+use Rattle.rz_machine.specs.Traced.{kept_in, with_run}
 use Rattle.rz_machine.specs.WrittenFile.{Inert}
 use Rattle.rz_machine.specs.Keeps.{Keeps}
 use Rattle.rz_elf.specs.PlainImage.{IsPlainRegion, IsPlainImage}
-use Rattle.rz_rewrite.specs.Refusals.{rip_reach_of as first_out_of_reach, no_room_for}
+use Rattle.rz_rewrite.specs.declared.refusal.Refusal.{Refusal}
+use Rattle.rz_rewrite.specs.declared.refusal.Refusal.TheVariants as refusal
+use Rattle.rz_rewrite.specs.Refusals.{rip_reach_of, no_room_for, IsRefusal}
 use Rattle.rz_rewrite.specs.Rewritten.{CanRewrite}
 use Rattle.rz_elf.specs.Laws.Loads.{loaded_image}
 use Rattle.rz_image.specs.Laws.Cells.{IsFixed, all_map, none_self_written}
 use Rattle.rz_elf.specs.Laws.PlainAccepted.{accepted_plain}
-use Rattle.rz_core.specs.Debloated.{traced, kept_of, AllStay, rip_reach_of, no_room_of, IsDebloated, report_of, report_with}
+use Rattle.rz_core.specs.Debloated.{traced, recorded_of, AllStay, Sources, record_of, IsKept, IsDebloated}
+use Rattle.rz_core.specs.declared.status.Status.{Status}
+use Rattle.rz_core.specs.declared.status.Status.TheVariants as status
+use Rattle.rz_core.specs.Calls.Making.{status_of, MakeRefusal, RunsRefusal, TraceRefusal}
 use Rattle.rz_core.proofs.UnionLaws.{all_uncut}
 
 -- each item of a list of bytes is one
@@ -49,30 +58,45 @@ module _ (elf : ElfFile) (is : IsRead elf) where
       let fixed : NoSelfWritten (image_of elf.bytes).loads = none_self_written (image_of elf.bytes).loads (all_map IsPlainRegion IsFixed (λ r k. k.fixed) (image_of elf.bytes).loads plain) in
       subst (λ (i : Image). StaysPlausible decode_profile limit i old new) image stays some fixed stands
 
--- the report is of what the runs recorded
-pub report_is : (x : List ℕ) (limit : ℕ) (inputs : List Input) (kept : Kept) (report : List ℕ) → kept ≡ kept_of limit x inputs
-    → report ≡ report_with (image_of x) kept → report ≡ report_of limit x inputs
-report_is x limit inputs kept report same e = e ∙ ap (report_with (image_of x)) same
+-- a level's set of what the runs recorded
+module _ (level : Level) (limit : ℕ) (from : Sources) (rec kept : Record) (recorded : kept_in rec ≡ recorded_of limit from.exe from.inputs)
+    (keeps : KeepsAt level (program_of PROFILE from.exe) from.functions rec kept)
+  where
+    pub is_kept : IsKept level limit from (kept_in kept)
+    is_kept =
+        let same : KeepsAt level (program_of PROFILE from.exe) from.functions (record_of (kept_in rec)) (record_of (kept_in kept)) = keeps in
+        subst (λ (k : Kept). KeepsAt level (program_of PROFILE from.exe) from.functions (record_of k) (record_of (kept_in kept))) recorded same
 
--- what is made of a file for the set that its runs recorded
-pub debloated_of : (x : List ℕ) (limit : ℕ) (inputs : List Input) (kept : Kept) (w : List ℕ) → kept ≡ kept_of limit x inputs
-    → AllStay limit x inputs → first_out_of_reach decode_profile x kept ≡ None → no_room_for decode_profile x kept ≡ None
-    → Keeps decode_profile x w kept → Inert decode_profile x w kept
-    → IsDebloated limit x inputs w
-debloated_of x limit inputs kept w same stay reach room keeps inert =
-    record {
-      stay = stay;
-      reach = ap (first_out_of_reach decode_profile x) (sym same) ∙ reach;
-      room = ap (no_room_for decode_profile x) (sym same) ∙ room;
-      keeps = subst (Keeps decode_profile x w) same keeps;
-      uncut = all_uncut limit x inputs stay;
-      inert = subst (Inert decode_profile x w) same inert;
-    }
+    -- what is made of a file for it
+    module _ (stay : AllStay limit from.exe from.inputs) where
+      pub debloated_of : (w : List ℕ) → IsWithin rec kept → rip_reach_of decode_profile from.exe (kept_in kept) ≡ None → no_room_for decode_profile from.exe (kept_in kept) ≡ None
+          → Keeps decode_profile from.exe w (kept_in kept) → Inert decode_profile from.exe w (kept_in kept) → IsDebloated level limit from w
+      debloated_of w within reach room runs inert =
+          record {
+            stay = stay;
+            kept = kept_in kept;
+            is = is_kept;
+            reach = reach;
+            room = room;
+            keeps = runs;
+            uncut = all_uncut limit from.exe kept.edges from.inputs
+                (subst (λ (k : Kept). (a b : ℕ) → has_edge k.edges a b ≡ true → has_edge kept.edges a b ≡ true) recorded within.edges) stay;
+            inert = inert;
+          }
 
--- an operand is out of reach, or none is
-pub rip_reach_is : (x : List ℕ) (limit : ℕ) (inputs : List Input) (kept : Kept) (o : Option ℕ) → kept ≡ kept_of limit x inputs → first_out_of_reach decode_profile x kept ≡ o → rip_reach_of limit x inputs ≡ o
-rip_reach_is x limit inputs kept o same e = ap (first_out_of_reach decode_profile x) (sym same) ∙ e
+      -- and why nothing is
+      pub refused_of : (why : Refusal) → IsRefusal decode_profile from.exe (kept_in kept) why → MakeRefusal level limit from (status_of why)
+      refused_of (refusal.RipReach address) h = record { stay = stay; kept = kept_in kept; is = is_kept; fact = h }
+      refused_of (refusal.NoRoom room) h = record { stay = stay; kept = kept_in kept; is = is_kept; fact = h }
+      refused_of refusal.OutOfMemory h = tt
 
--- there is no room for it
-pub no_room_is : (x : List ℕ) (limit : ℕ) (inputs : List Input) (kept : Kept) (room : Room) → kept ≡ kept_of limit x inputs → no_room_for decode_profile x kept ≡ Some room → no_room_of limit x inputs ≡ Some room
-no_room_is x limit inputs kept room same e = ap (no_room_for decode_profile x) (sym same) ∙ e
+-- why runs weren't recorded ends debloating, and tracing, so
+pub make_refusal : (level : Level) (limit : ℕ) (from : Sources) (st : Status) → RunsRefusal limit from.exe from.inputs st → MakeRefusal level limit from st
+make_refusal level limit from (status.LeftCode n a) h = h
+make_refusal level limit from status.OutOfMemory h = tt
+make_refusal level limit from _ h = absurd h
+
+pub trace_refusal : (x : List ℕ) (limit : ℕ) (inputs : List Input) (st : Status) → RunsRefusal limit x inputs st → TraceRefusal limit x inputs st
+trace_refusal x limit inputs (status.LeftCode n a) h = h
+trace_refusal x limit inputs status.OutOfMemory h = tt
+trace_refusal x limit inputs _ h = absurd h

@@ -11,10 +11,15 @@ use Rattle.rz_input.specs.Fault.{fault_of as input_fault_of, fault_of_line}
 use Rattle.rz_input.specs.Value.{input_of}
 use Rattle.rz_sys.specs.declared.input.Input.{Input}
 use Rattle.rz_text.specs.Fault.{line_fault}
+use Rattle.rz_classes.specs.declared.error.ClassError.{ClassError}
+use Rattle.rz_classes.specs.declared.error.ClassError.TheVariants as class_error
+use Rattle.rz_classes.specs.declared.listed.Function.{Function}
+use Rattle.rz_classes.specs.Fault.{fault_of as class_fault_of, fault_of_line as class_fault_of_line, functions_of}
 use Rattle.rz_outside.specs.StoreCalls.{StoreCalls, Held}
 use Rattle.rz_core.specs.Inputs.{HoldsInput}
-use Rattle.rz_core.specs.Reading.{InputNumber, FileRefusal, wanted}
-use Rattle.rz_core.specs.Calls.Programs.{input_refusal}
+use Rattle.rz_core.specs.Classes.{HoldsClasses}
+use Rattle.rz_core.specs.Reading.{ClassFile, InputNumber, FileRefusal, wanted}
+use Rattle.rz_core.specs.Calls.Programs.{class_refusal, input_refusal}
 use Rattle.rz_core.proofs.ExactLaws.{not_both}
 
 -- a test that refuses each list of more than `most` bytes in one way tells as much of the first bytes, one more than that, as of all
@@ -53,6 +58,10 @@ long_executable x long =
 pub long_input : (x : List ℕ) → 16777216 < length x → input_fault_of x ≡ Some (error.BadLine 0)
 long_input x long = ap (λ b. if b then Some (error.BadLine 0) else line_fault fault_of_line x) (lt-ltb 16777216 (length x) long)
 
+-- a class file of too many bytes
+pub long_classes : (x : List ℕ) → 16777216 < length x → class_fault_of x ≡ Some (class_error.BadLine 0)
+long_classes x long = ap (λ b. if b then Some (class_error.BadLine 0) else line_fault class_fault_of_line x) (lt-ltb 16777216 (length x) long)
+
 -- what holds of the first bytes, and then of the whole file, holds of what was read
 pub of_read : (told : Bool) (files : Files) (name : List ℕ) (max : ℕ) (bytes : List ℕ) (P : List ℕ → Type 0) → ReadsFirst told files name max bytes → P bytes
     → ((whole : List ℕ) → bytes ≡ take max whole → P whole) → (x : List ℕ) × (IsTrue told → files name ≡ Some x) × P x
@@ -77,6 +86,28 @@ pub input_held : (s : StoreCalls) (name bytes : List ℕ) (input : Input) → Re
 input_held s name bytes input reads none value = (
   bytes,
   λ told. (let r = reads told in r.1 ∙ ap Some (sym (read_whole input_fault_of 16777216 (error.BadLine 0) long_input r.0 bytes r.2 none))),
+  none,
+  value,
+)
+
+-- the same of class files
+pub classes_refused : (s : StoreCalls) (name bytes : List ℕ) (e : ClassError) → ReadsFirst s.told s.old name 16777217 bytes → (e ≢ class_error.OutOfMemory → class_fault_of bytes ≡ Some e)
+    → FileRefusal (wanted name ClassFile) s (class_refusal e)
+classes_refused s name bytes e reads why = by_fault e why
+  where
+    read_of : (f : ClassError) → class_fault_of bytes ≡ Some f → (x : List ℕ) × (IsTrue s.told → s.old name ≡ Some x) × (class_fault_of x ≡ Some f)
+    read_of f h = of_read s.told s.old name 16777217 bytes (λ x. class_fault_of x ≡ Some f) reads h (λ whole first. fault_whole class_fault_of 16777216 (class_error.BadLine 0) long_classes whole bytes first (Some f) h)
+
+    by_fault : (f : ClassError) → (f ≢ class_error.OutOfMemory → class_fault_of bytes ≡ Some f) → FileRefusal (wanted name ClassFile) s (class_refusal f)
+    by_fault class_error.OutOfMemory h = inl tt
+    by_fault (class_error.BadLine line) h = let r = read_of (class_error.BadLine line) (h (λ n. cc)) in inr (r.0, r.1, (class_error.BadLine line, refl, r.2))
+    by_fault (class_error.Overlap line) h = let r = read_of (class_error.Overlap line) (h (λ n. cc)) in inr (r.0, r.1, (class_error.Overlap line, refl, r.2))
+
+pub classes_held : (s : StoreCalls) (name bytes : List ℕ) (functions : List Function) → ReadsFirst s.told s.old name 16777217 bytes → class_fault_of bytes ≡ None → functions ≡ functions_of bytes
+    → HoldsClasses (Held s) (Some name) functions
+classes_held s name bytes functions reads none value = (
+  bytes,
+  λ told. (let r = reads told in r.1 ∙ ap Some (sym (read_whole class_fault_of 16777216 (class_error.BadLine 0) long_classes r.0 bytes r.2 none))),
   none,
   value,
 )

@@ -15,7 +15,7 @@ use Rattle.rz_core.proofs.MadeLaws.{traced_is}
 
 -- a machine that came from the opening state of what was read of a file
 module _ (elf : ElfFile) (is : IsRead elf) (limit : ℕ) (input : Input) (opened came : Machine) (open_is : opened ≡ start (loaded elf) input) (after_is : came ≡ after decode_profile limit opened) where
-  came_is : came ≡ ran limit elf.bytes input
+  pub came_is : came ≡ ran limit elf.bytes input
   came_is = after_is ∙ ap (λ (s : Machine). after decode_profile limit s) (open_is ∙ traced_is elf is input)
 
   stop_is : (stop : Option ℕ) → stop ≡ option_and_then (stub_word_of elf) came.end → stop_of limit elf.bytes input ≡ stop

@@ -1,24 +1,26 @@
 -- The runs on several inputs, one after another: what they record together, and how they end.
-use Rattle.std.proofs.Common.{◌≡◌, ℕ, suc, ◌+◌, ◌<◌, ◌≤◌, true, List, [], ◌∷◌, fold, length, drop, get_or, inl, inr, sym, ap, ◌∙◌, subst, add-one, drop-cons, arith}
+use Rattle.std.proofs.Common.{◌≡◌, true, ℕ, suc, ◌+◌, ◌<◌, ◌≤◌, List, [], ◌∷◌, fold, length, drop, get_or, inl, inr, sym, ap, ◌∙◌, subst, add-one, drop-cons, arith}
+use Rattle.std.specs.Prelude.{Bool, ◌||◌}
 use Rattle.std.proofs.lemmas.Bool.{or_left}
+use Rattle.std.proofs.Math.Bool.{or-false, or_assoc}
 use Rattle.std.proofs.lemmas.List.{drop_all}
-use Rattle.std.specs.List.{AllByRecursion}
+use Rattle.std.specs.List.{AllByRecursion, list_any}
 use Rattle.rz_sys.specs.declared.input.Input.{Input}
 use Rattle.rz_elf.specs.Elf.{image_of}
-use Rattle.rz_machine.specs.Kept.{Kept, Edges, has_edge}
+use Rattle.rz_machine.specs.Kept.{Kept, Edges, has_edge, has_node}
 use Rattle.rz_machine.specs.Begun.{begun, neighbours}
 use Rattle.rz_machine.specs.Traced.{with_run}
 use Rattle.rz_machine.specs.LeftCode.{StaysInCode}
 use Rattle.rz_machine.specs.Recorded.{IsUncut}
 use Rattle.rz_machine.specs.Nodes.{code_in, StandsIn}
-use Rattle.rz_machine.proofs.SetLaws.{has_edge-with_edges}
+use Rattle.rz_machine.proofs.SetLaws.{has_edge-with_edges, has_node-with_nodes}
 use Rattle.rz_machine.proofs.RecordedLaws.{HasRun, run_no_cut, ended_no_cut, with_run_has, nothing_stands}
 use Rattle.rz_rewrite.specs.Rewritten.{CanRewrite}
 use Rattle.rz_core.specs.Decoding.{decode_profile}
 use Rattle.rz_core.specs.declared.status.Status.{Status}
 use Rattle.rz_core.specs.declared.status.Status.TheVariants as status
-use Rattle.rz_core.specs.Debloated.{traced, kept_of, AllStay, LeavesFirst}
-use Rattle.rz_core.specs.Calls.Making.{MakeRefusal, RunRefusal}
+use Rattle.rz_core.specs.Debloated.{traced, recorded_of, AllStay, LeavesFirst}
+use Rattle.rz_core.specs.Calls.Making.{RunsRefusal, RunRefusal}
 
 -- a record of nothing
 abbrev pub nothing : Kept
@@ -28,13 +30,34 @@ module _ (limit : ℕ) (x : List ℕ) where
   abbrev with_input : Kept → Input → Kept
   with_input kept input = with_run decode_profile limit (traced x input) kept
 
-  -- the record grows with each run
-  grows : (inputs : List Input) (kept : Kept) (a b : ℕ) → has_edge kept.edges a b ≡ true → has_edge (fold with_input kept inputs).edges a b ≡ true
+  -- what a run begins, and the neighbours in it
+  abbrev pub run_nodes : Input → List ℕ
+  run_nodes input = begun decode_profile limit (traced x input)
+
+  abbrev pub run_edges : Input → Edges
+  run_edges input = neighbours (run_nodes input)
+
+  -- after some runs the record has what it had and what one of them used, and no more
+  nodes_after : (inputs : List Input) (kept : Kept) (a : ℕ) → has_node (fold with_input kept inputs).nodes a ≡ (has_node kept.nodes a || list_any (λ input. has_node (run_nodes input) a) inputs)
   unfolding with_run
-  grows [] kept a b h = h
-  grows (i ∷ is) kept a b h =
-      let run = neighbours (begun decode_profile limit (traced x i)) in
-      grows is (with_input kept i) a b (has_edge-with_edges kept.edges run a b ∙ or_left (has_edge kept.edges a b) (has_edge run a b) h)
+  nodes_after [] kept a = sym (or-false (has_node kept.nodes a))
+  nodes_after (i ∷ is) kept a =
+      let rest = list_any (λ (input : Input). has_node (run_nodes input) a) is in
+      nodes_after is (with_input kept i) a ∙ ap (λ (has : Bool). has || rest) (has_node-with_nodes kept.nodes (run_nodes i) a) ∙ or_assoc (has_node kept.nodes a) (has_node (run_nodes i) a) rest
+
+  edges_after : (inputs : List Input) (kept : Kept) (a b : ℕ) → has_edge (fold with_input kept inputs).edges a b ≡ (has_edge kept.edges a b || list_any (λ input. has_edge (run_edges input) a b) inputs)
+  unfolding with_run
+  edges_after [] kept a b = sym (or-false (has_edge kept.edges a b))
+  edges_after (i ∷ is) kept a b =
+      let rest = list_any (λ (input : Input). has_edge (run_edges input) a b) is in
+      edges_after is (with_input kept i) a b ∙ ap (λ (has : Bool). has || rest) (has_edge-with_edges kept.edges (run_edges i) a b) ∙ or_assoc (has_edge kept.edges a b) (has_edge (run_edges i) a b) rest
+
+  -- so the record of all inputs is the union of what their runs use
+  pub union_nodes : (inputs : List Input) (a : ℕ) → has_node (recorded_of limit x inputs).nodes a ≡ list_any (λ input. has_node (run_nodes input) a) inputs
+  union_nodes inputs a = nodes_after inputs nothing a
+
+  pub union_edges : (inputs : List Input) (a b : ℕ) → has_edge (recorded_of limit x inputs).edges a b ≡ list_any (λ input. has_edge (run_edges input) a b) inputs
+  union_edges inputs a b = edges_after inputs nothing a b
 
   -- a set of edges that has those of a run cuts it nowhere
   uncut_by : (input : Input) (edges : Edges) → StaysInCode decode_profile limit (traced x input) → HasRun decode_profile limit (traced x input) edges → IsUncut decode_profile edges (traced x input) limit
@@ -44,20 +67,26 @@ module _ (limit : ℕ) (x : List ℕ) where
         ended = λ why e. ended_no_cut decode_profile limit (traced x input) edges why e stays has;
       }
 
-  uncut_from : (inputs : List Input) (kept : Kept) → AllStay limit x inputs → AllByRecursion (λ input. IsUncut decode_profile (fold with_input kept inputs).edges (traced x input) limit) inputs
-  uncut_from [] kept all = tt
-  uncut_from (i ∷ is) kept all = (
-    uncut_by i (fold with_input (with_input kept i) is).edges all.0 (λ a b h. grows is (with_input kept i) a b (with_run_has decode_profile limit (traced x i) kept a b h)),
-    uncut_from is (with_input kept i) all.1,
-  )
+  -- so one that has all of the union of runs that stay in the code cuts none of them
+  module _ (edges : Edges) where
+    abbrev HasAll : Edges → Type 0
+    HasAll few = (a b : ℕ) → has_edge few a b ≡ true → has_edge edges a b ≡ true
 
-  -- so the union of runs that stay in the code cuts none of them
-  pub all_uncut : (inputs : List Input) → AllStay limit x inputs → AllByRecursion (λ input. IsUncut decode_profile (kept_of limit x inputs).edges (traced x input) limit) inputs
-  all_uncut inputs all = uncut_from inputs nothing all
+    uncut_from : (inputs : List Input) (kept : Kept) → HasAll (fold with_input kept inputs).edges → AllStay limit x inputs
+        → AllByRecursion (λ input. IsUncut decode_profile edges (traced x input) limit) inputs
+    uncut_from [] kept has all = tt
+    uncut_from (i ∷ is) kept has all = (
+      uncut_by i edges all.0 (λ a b h. has a b (edges_after is (with_input kept i) a b ∙ or_left (has_edge (with_input kept i).edges a b) _ (with_run_has decode_profile limit (traced x i) kept a b h))),
+      uncut_from is (with_input kept i) has all.1,
+    )
+
+    pub all_uncut : (inputs : List Input) → ((a b : ℕ) → has_edge (recorded_of limit x inputs).edges a b ≡ true → has_edge edges a b ≡ true) → AllStay limit x inputs
+        → AllByRecursion (λ input. IsUncut decode_profile edges (traced x input) limit) inputs
+    all_uncut inputs has all = uncut_from inputs nothing has all
 
   -- the runs on the first k inputs stayed in the code and are recorded, and the rest is to come
   pub record Unites (k : ℕ) (rest inputs : List Input) (kept : Kept) : Type 0 where
-    pub union : fold (λ kept input. with_run decode_profile limit (traced x input) kept) kept rest ≡ kept_of limit x inputs
+    pub union : fold (λ kept input. with_run decode_profile limit (traced x input) kept) kept rest ≡ recorded_of limit x inputs
     pub stay : AllStay limit x rest → AllStay limit x inputs
     pub leaves : (n a : ℕ) → LeavesFirst limit x (suc k) rest n a → LeavesFirst limit x 1 inputs n a
     pub stands : StandsIn decode_profile (code_in (image_of x).loads) kept
@@ -93,7 +122,7 @@ module _ (limit : ℕ) (x : List ℕ) where
         }
 
     -- the refusal of a run, where those before it stayed
-    pub unites_not : (old : Kept) (st : Status) → Unites k (drop k inputs) inputs old → RunRefusal (k + 1) limit x input st → MakeRefusal limit x inputs st
+    pub unites_not : (old : Kept) (st : Status) → Unites k (drop k inputs) inputs old → RunRefusal (k + 1) limit x input st → RunsRefusal limit x inputs st
     unites_not old (status.LeftCode n a) so h =
         let before : Unites k (input ∷ drop (k + 1) inputs) inputs old = subst (λ (l : List Input). Unites k l inputs old) splits so in
         before.leaves n a (inl (h.0 ∙ add-one k, h.1))

@@ -1,5 +1,5 @@
 -- When the tool gives which answer, and what the files and the sink hold after it.
-use Rattle.std.specs.Prelude.{◌≡◌, ◌⊎◌, ℕ, IsTrue, List, take, Option, Some, None}
+use Rattle.std.specs.Prelude.{◌≡◌, ◌⊎◌, ℕ, IsTrue, List, [], take, Option, Some, None}
 use Rattle.rz_outside.specs.Counts.{Rose}
 use Rattle.rz_outside.specs.StoreAnswers.{SameFiles, SameOthers}
 use Rattle.rz_outside.specs.StoreCalls.{StoreCalls, Held}
@@ -14,10 +14,10 @@ use Rattle.rz_core.specs.Texts.{refusal_text}
 use Rattle.rz_core.specs.Command.{Command}
 use Rattle.rz_core.specs.Commands.{command_of}
 
--- the file that is written, if any, holds what the command writes there
-abbrev pub IsWritten : Option (List ℕ) → Command → StoreCalls → List (List ℕ) → Type 0
-IsWritten None c s contents = Unit {0}
-IsWritten (Some out) c s contents = (w : List ℕ) × c.New contents w × (IsTrue s.told → s.new out ≡ Some w)
+-- these bytes are what the command writes, and the file that is written holds them; none where it writes no file
+abbrev pub IsWritten : Option (List ℕ) → Command → StoreCalls → List (List ℕ) → List ℕ → Type 0
+IsWritten None c s contents w = w ≡ []
+IsWritten (Some out) c s contents w = c.New contents w × (IsTrue s.told → s.new out ≡ Some w)
 
 -- the command is done with this answer and this text
 pub record IsDone (c : Command) (s : StoreCalls) (answer : Status) (text : List ℕ) : Type 0 where
@@ -25,8 +25,9 @@ pub record IsDone (c : Command) (s : StoreCalls) (answer : Status) (text : List 
   pub read : HoldAll (Held s) c.reads contents
   pub ends : c.Ends contents answer
   pub kind : kind_of answer ≡ Done
-  pub text_is : text ≡ c.text contents
-  pub written : IsWritten c.out c s contents
+  pub w : List ℕ
+  pub written : IsWritten c.out c s contents w
+  pub text_is : c.Text contents w text
 
 -- it is done, up to its text
 abbrev pub IsDoneWith : Command → StoreCalls → List ℕ → Type 0

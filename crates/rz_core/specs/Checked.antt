@@ -1,5 +1,5 @@
 -- The command `check`.
-use Rattle.std.specs.Prelude.{ℕ, List, [], ◌∷◌, length, None}
+use Rattle.std.specs.Prelude.{◌≡◌, ℕ, List, [], ◌∷◌, length, None}
 use Rattle.rz_elf.specs.Elf.{image_of}
 use Rattle.rz_core.specs.Texts.{check_text}
 use Rattle.rz_core.specs.Words.{Check}
@@ -19,7 +19,7 @@ check_command c =
     record {
       reads = wanted c.exe Accepted ∷ [];
       Ends = λ contents answer. EndsWell answer;
-      text = checked;
+      Text = λ contents w text. text ≡ checked contents;
       out = None;
       New = λ contents w. ⊥;
     }

@@ -10,8 +10,8 @@ pub record Command : Type 1 where
   pub reads : List Wanted
   -- how it ends where they hold these contents: done, or with a refusal of its own
   pub Ends : List (List ℕ) → Status → Type 0
-  -- its text where it is done
-  pub text : List (List ℕ) → List ℕ
+  -- what its text is where it is done, by what it wrote there too: no bytes where it writes no file
+  pub Text : List (List ℕ) → (written text : List ℕ) → Type 0
   -- the file that it writes, if any
   pub out : Option (List ℕ)
   -- what it may write there

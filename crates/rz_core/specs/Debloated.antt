@@ -1,35 +1,42 @@
--- What debloating makes of a file and inputs: the kept set of their runs, the written file, and the report.
-use Rattle.std.specs.Prelude.{◌≡◌, ◌⊎◌, ℕ, suc, List, [], ◌∷◌, length, map, fold, Option, Some, None}
+-- What debloating makes of a file, its listed functions and inputs: what a level keeps, the written file, and the report.
+use Rattle.std.specs.Prelude.{◌≡◌, ◌⊎◌, ℕ, suc, List, [], ◌∷◌, map, fold, Option, Some, None, IsSomeAnd}
 use Rattle.std.specs.List.{AllByRecursion}
+use Rattle.rz_aset.specs.declared.kept.Record.{Record}
+use Rattle.rz_table.specs.declared.profile_rows.TheConstants.{PROFILE}
+use Rattle.rz_classes.specs.declared.listed.Function.{Function}
+use Rattle.rz_classes.specs.Fault.{functions_of}
 use Rattle.rz_machine.specs.declared.machine.Machine.{Machine}
 use Rattle.rz_sys.specs.declared.input.Input.{Input}
 use Rattle.rz_machine.specs.Kept.{Kept}
-use Rattle.rz_elf.specs.Elf.{Image, image_of}
+use Rattle.rz_paths.specs.declared.level.Level.{Level}
+use Rattle.rz_paths.specs.Program.{program_of}
+use Rattle.rz_paths.specs.Levels.{Keeps as KeepsAt}
+use Rattle.rz_elf.specs.Elf.{image_of}
 use Rattle.rz_core.specs.Decoding.{decode_profile}
 use Rattle.rz_machine.specs.Start.{start}
 use Rattle.rz_machine.specs.Traced.{with_run}
 use Rattle.rz_machine.specs.LeftCode.{LeavesCode, StaysInCode}
-use Rattle.rz_machine.specs.Added.{added, site_count, site_edge_count}
 use Rattle.rz_machine.specs.Keeps.{Keeps}
 use Rattle.rz_machine.specs.Recorded.{IsUncut}
 use Rattle.rz_machine.specs.WrittenFile.{Inert}
-use Rattle.rz_elf.specs.declared.room.Room.{Room}
-use Rattle.rz_rewrite.specs.Refusals.{rip_reach_of as first_out_of_reach, no_room_for}
+use Rattle.rz_rewrite.specs.Refusals.{rip_reach_of, no_room_for}
+use Rattle.rz_report.specs.Report.{debloat_report_of}
 use Rattle.rz_input.specs.Value.{input_of}
 use Rattle.rz_core.specs.declared.status.Status.{Status}
 use Rattle.rz_core.specs.declared.status.Status.TheVariants as status
-use Rattle.rz_core.specs.Texts.{report_text}
 use Rattle.rz_core.specs.Words.{Debloat}
-use Rattle.rz_core.specs.Reading.{wanted_program}
+use Rattle.rz_core.specs.Reading.{wanted_sources}
 use Rattle.rz_core.specs.Command.{Command}
+
+-- ---- the traced runs
 
 -- the opening state of a traced run
 abbrev pub traced : List ℕ → Input → Machine
 traced x input = start (image_of x) input
 
 -- the nodes and edges of the first `limit` steps of the runs on these inputs
-abbrev pub kept_of : ℕ → List ℕ → List Input → Kept
-kept_of limit x inputs =
+abbrev pub recorded_of : ℕ → List ℕ → List Input → Kept
+recorded_of limit x inputs =
     fold (λ kept input. with_run decode_profile limit (traced x input) kept) (record { nodes = []; edges = [] }) inputs
 
 -- no run leaves the code in its first `limit` steps
@@ -43,64 +50,76 @@ LeavesFirst limit x k (input ∷ inputs) n address =
     ((n ≡ k) × LeavesCode decode_profile limit (traced x input) address)
     ⊎ (StaysInCode decode_profile limit (traced x input) × LeavesFirst limit x (suc k) inputs n address)
 
--- the least kept address whose operand is out of reach, if there is one
-abbrev pub rip_reach_of : ℕ → List ℕ → List Input → Option ℕ
-rip_reach_of limit x inputs = first_out_of_reach decode_profile x (kept_of limit x inputs)
+-- ---- what a level keeps of them
 
--- why the parts for what is kept have no room, if they have none
-abbrev pub no_room_of : ℕ → List ℕ → List Input → Option Room
-no_room_of limit x inputs = no_room_for decode_profile x (kept_of limit x inputs)
+-- what debloating starts from: a file, its listed functions, and inputs for it
+pub record Sources : Type 0 where
+  pub exe : List ℕ
+  pub functions : List Function
+  pub inputs : List Input
 
--- w is what debloating makes of x and these inputs with this limit
-pub record IsDebloated (limit : ℕ) (x : List ℕ) (inputs : List Input) (w : List ℕ) : Type 0 where
-  pub stay : AllStay limit x inputs
-  pub reach : rip_reach_of limit x inputs ≡ None
-  pub room : no_room_of limit x inputs ≡ None
-  -- each run of w follows x's, up to the first edge that isn't kept
-  pub keeps : Keeps decode_profile x w (kept_of limit x inputs)
+abbrev pub sources : List ℕ → List Function → List Input → Sources
+sources exe functions inputs = record { exe = exe; functions = functions; inputs = inputs }
+
+abbrev pub record_of : Kept → Record
+record_of kept = record { nodes = kept.nodes; edges = kept.edges }
+
+-- a set is what a level keeps of what the runs record in their first `limit` steps, in any order
+abbrev pub IsKept : Level → ℕ → Sources → Kept → Type 0
+IsKept level limit s kept =
+    KeepsAt level (program_of PROFILE s.exe) s.functions (record_of (recorded_of limit s.exe s.inputs)) (record_of kept)
+
+-- ---- what is made for it
+
+-- w is what debloating makes of these sources
+pub record IsDebloated (level : Level) (limit : ℕ) (s : Sources) (w : List ℕ) : Type 0 where
+  pub stay : AllStay limit s.exe s.inputs
+  pub kept : Kept
+  pub is : IsKept level limit s kept
+  pub reach : rip_reach_of decode_profile s.exe kept ≡ None
+  pub room : no_room_for decode_profile s.exe kept ≡ None
+  -- each run of w follows the file's, up to the first edge that isn't kept
+  pub keeps : Keeps decode_profile s.exe w kept
   -- the traced runs take no such edge before they ended or their limit came
-  pub uncut : AllByRecursion (λ input. IsUncut decode_profile (kept_of limit x inputs).edges (traced x input) limit) inputs
-  pub inert : Inert decode_profile x w (kept_of limit x inputs)
+  pub uncut : AllByRecursion (λ input. IsUncut decode_profile kept.edges (traced s.exe input) limit) s.inputs
+  pub inert : Inert decode_profile s.exe w kept
 
--- the report of an image for a kept set
-abbrev pub report_with : Image → Kept → List ℕ
-report_with image kept =
-    report_text (added decode_profile image kept).scratch (length kept.edges) (length kept.nodes)
-    (site_edge_count decode_profile image kept) (site_count decode_profile image kept)
+-- a text is the report of it
+abbrev pub IsReport : Level → ℕ → Sources → List ℕ → Type 0
+IsReport level limit s text = (kept : Kept) × IsKept level limit s kept × (text ≡ debloat_report_of decode_profile (image_of s.exe) kept)
 
--- the report of it
-abbrev pub report_of : ℕ → List ℕ → List Input → List ℕ
-report_of limit x inputs = report_with (image_of x) (kept_of limit x inputs)
+-- no run leaves the code, and a fact holds of what is kept
+pub record StayAnd (level : Level) (limit : ℕ) (s : Sources) (P : Kept → Type 0) : Type 0 where
+  pub stay : AllStay limit s.exe s.inputs
+  pub kept : Kept
+  pub is : IsKept level limit s kept
+  pub fact : P kept
 
 -- how debloating ends: a run leaves the code; or else an operand is out of reach; or else there is no room for the added parts
-abbrev pub DebloatEnds : ℕ → List ℕ → List Input → Status → Type 0
-DebloatEnds limit x inputs (status.LeftCode n address) = LeavesFirst limit x 1 inputs n address
-DebloatEnds limit x inputs (status.RipReach address) = AllStay limit x inputs × (rip_reach_of limit x inputs ≡ Some address)
-DebloatEnds limit x inputs (status.NoRoom room) =
-    AllStay limit x inputs × (rip_reach_of limit x inputs ≡ None) × (no_room_of limit x inputs ≡ Some room)
-DebloatEnds limit x inputs status.Ok =
-    AllStay limit x inputs × (rip_reach_of limit x inputs ≡ None) × (no_room_of limit x inputs ≡ None)
-DebloatEnds limit x inputs _ = ⊥
+abbrev pub DebloatEnds : Level → ℕ → Sources → Status → Type 0
+DebloatEnds level limit s (status.LeftCode n address) = LeavesFirst limit s.exe 1 s.inputs n address
+DebloatEnds level limit s (status.RipReach address) =
+    StayAnd level limit s (λ kept. rip_reach_of decode_profile s.exe kept ≡ Some address)
+DebloatEnds level limit s (status.NoRoom room) =
+    StayAnd level limit s (λ kept. (rip_reach_of decode_profile s.exe kept ≡ None) × (no_room_for decode_profile s.exe kept ≡ Some room))
+DebloatEnds level limit s status.Ok =
+    StayAnd level limit s (λ kept. (rip_reach_of decode_profile s.exe kept ≡ None) × (no_room_for decode_profile s.exe kept ≡ None))
+DebloatEnds level limit s _ = ⊥
 
--- the contents are the executable and the texts of the inputs
-abbrev pub DebloatEndsBy : ℕ → List (List ℕ) → Status → Type 0
-DebloatEndsBy limit [] answer = ⊥
-DebloatEndsBy limit (x ∷ texts) answer = DebloatEnds limit x (map input_of texts) answer
+-- ---- of the files that it reads
 
-abbrev pub debloated_text : ℕ → List (List ℕ) → List ℕ
-debloated_text limit [] = []
-debloated_text limit (x ∷ texts) = report_of limit x (map input_of texts)
-
-abbrev pub IsDebloatedBy : ℕ → List (List ℕ) → List ℕ → Type 0
-IsDebloatedBy limit [] w = ⊥
-IsDebloatedBy limit (x ∷ texts) w = IsDebloated limit x (map input_of texts) w
+-- the contents are the executable, the class text, if there is one, and the texts of the inputs
+abbrev pub sources_of : Option (List ℕ) → List (List ℕ) → Option Sources
+sources_of None (x ∷ texts) = Some (sources x [] (map input_of texts))
+sources_of (Some name) (x ∷ classes ∷ texts) = Some (sources x (functions_of classes) (map input_of texts))
+sources_of _ _ = None
 
 abbrev pub debloat_command : Debloat → Command
 debloat_command d =
     record {
-      reads = wanted_program d.exe d.inputs;
-      Ends = DebloatEndsBy d.limit;
-      text = debloated_text d.limit;
+      reads = wanted_sources d.exe d.classes d.inputs;
+      Ends = λ contents answer. IsSomeAnd (sources_of d.classes contents) (λ s. DebloatEnds d.level d.limit s answer);
+      Text = λ contents w text. IsSomeAnd (sources_of d.classes contents) (λ s. IsReport d.level d.limit s text);
       out = Some d.out;
-      New = IsDebloatedBy d.limit;
+      New = λ contents w. IsSomeAnd (sources_of d.classes contents) (λ s. IsDebloated d.level d.limit s w);
     }

@@ -10,7 +10,7 @@ generate_command g =
     record {
       reads = [];
       Ends = λ contents answer. EndsWell answer;
-      text = λ contents. generated_text (length (generated g.count));
+      Text = λ contents w text. text ≡ generated_text (length (generated g.count));
       out = Some g.out;
       New = λ contents w. w ≡ generated g.count;
     }

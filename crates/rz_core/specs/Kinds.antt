@@ -16,6 +16,7 @@ pub data Kind : Type 0 where
 
 abbrev pub kind_of : Status → Kind
 kind_of status.Ok = Done
+kind_of (status.Differ event) = Done
 kind_of (status.StubStop source) = Done
 kind_of (status.WriteFault target.Text) = TextLost
 kind_of (status.WriteFault target.File) = FileLost

@@ -1,5 +1,5 @@
 -- The command `disasm`.
-use Rattle.std.specs.Prelude.{ℕ, List, [], ◌∷◌, None}
+use Rattle.std.specs.Prelude.{◌≡◌, ℕ, List, [], ◌∷◌, None}
 use Rattle.rz_listing.specs.Listing.{file_code, listing}
 use Rattle.rz_core.specs.Decoding.{decode_profile}
 use Rattle.rz_core.specs.Words.{Disasm}
@@ -19,7 +19,7 @@ disasm_command d =
     record {
       reads = wanted d.exe Accepted ∷ [];
       Ends = λ contents answer. EndsWell answer;
-      text = listed d.at d.count;
+      Text = λ contents w text. text ≡ listed d.at d.count contents;
       out = None;
       New = λ contents w. ⊥;
     }

@@ -47,7 +47,7 @@ run_command r =
     record {
       reads = wanted_program r.exe (r.input ∷ []);
       Ends = RunEndsBy r.limit;
-      text = ran_text_by r.limit;
+      Text = λ contents w text. text ≡ ran_text_by r.limit contents;
       out = None;
       New = λ contents w. ⊥;
     }

@@ -1,5 +1,5 @@
 -- The files that a command reads, in order, and how each is refused.
-use Rattle.std.specs.Prelude.{◌≡◌, ◌⊎◌, ℕ, suc, List, [], ◌∷◌, Some, None}
+use Rattle.std.specs.Prelude.{◌≡◌, ◌⊎◌, ℕ, suc, List, [], ◌∷◌, Option, Some, None}
 use Rattle.rz_outside.specs.Counts.{Rose}
 use Rattle.rz_outside.specs.StoreAnswers.{IsMissing}
 use Rattle.rz_outside.specs.StoreCalls.{StoreCalls, Held}
@@ -9,11 +9,15 @@ use Rattle.rz_input.specs.declared.error.InputError.{InputError}
 use Rattle.rz_input.specs.Fault.{fault_of as input_fault_of}
 use Rattle.rz_core.specs.declared.status.Status.{Status}
 use Rattle.rz_core.specs.declared.status.Status.TheVariants as status
+use Rattle.rz_classes.specs.declared.error.ClassError.{ClassError}
+use Rattle.rz_classes.specs.Fault.{fault_of as class_fault_of}
 use Rattle.rz_core.specs.Inputs.{line_of}
+use Rattle.rz_core.specs.Classes.{line_of as class_line_of}
 
--- what a file has to be: an accepted file, or the input of this number
+-- what a file has to be: an accepted file, a class file, or the input of this number
 pub data Demand : Type 0 where
   Accepted : Demand
+  ClassFile : Demand
   InputNumber : ℕ → Demand
 
 -- a file that a command reads
@@ -33,14 +37,26 @@ wanted_inputs k (name ∷ names) = wanted name (InputNumber k) ∷ wanted_inputs
 abbrev pub wanted_program : List ℕ → List (List ℕ) → List Wanted
 wanted_program exe inputs = wanted exe Accepted ∷ wanted_inputs 1 inputs
 
+-- a class file, if there is one, and then others
+abbrev pub wanted_classes : Option (List ℕ) → List Wanted → List Wanted
+wanted_classes None others = others
+wanted_classes (Some name) others = wanted name ClassFile ∷ others
+
+-- an executable, a class file for it, if there is one, and inputs
+abbrev pub wanted_sources : List ℕ → Option (List ℕ) → List (List ℕ) → List Wanted
+wanted_sources exe classes inputs = wanted exe Accepted ∷ wanted_classes classes (wanted_inputs 1 inputs)
+
 -- these bytes are what is demanded
 abbrev pub Meets : Demand → List ℕ → Type 0
 Meets Accepted x = fault_of x ≡ None
+Meets ClassFile x = class_fault_of x ≡ None
 Meets (InputNumber k) x = input_fault_of x ≡ None
 
 -- they aren't, which a file of this name is refused with
 abbrev pub Refuses : Demand → List ℕ → List ℕ → Status → Type 0
 Refuses Accepted name x answer = (f : ElfFault) × (answer ≡ status.Refused name f) × (fault_of x ≡ Some f)
+Refuses ClassFile name x answer =
+    (f : ClassError) × (answer ≡ status.BadClasses (class_line_of f)) × (class_fault_of x ≡ Some f)
 Refuses (InputNumber k) name x answer =
     (f : InputError) × (answer ≡ status.BadInput k (line_of f)) × (input_fault_of x ≡ Some f)
 

@@ -1,26 +1,15 @@
--- The texts that the tool puts: reports and refusals, each ended by one line feed.
-use Rattle.std.specs.Prelude.{ℕ, false, List, [], ◌∷◌, ◌++◌, codes, decimal}
-use Rattle.std.specs.Fmt.{digits}
+-- The texts that the tool puts, beside reports, listings and run texts: answers and refusals, each ended by one line feed.
+use Rattle.std.specs.Prelude.{ℕ, List, [], ◌∷◌, ◌++◌, codes, decimal}
+use Rattle.rz_report.specs.Report.{hex_text}
 use Rattle.rz_elf.specs.declared.fault.ElfFault.{ElfFault}
 use Rattle.rz_elf.specs.declared.fault.ElfFault.TheVariants as fault
 use Rattle.rz_elf.specs.declared.room.Room.{Room}
 use Rattle.rz_elf.specs.declared.room.Room.TheVariants as room
+use Rattle.rz_replay.specs.declared.compare.Verdict.{Verdict}
+use Rattle.rz_replay.specs.declared.compare.Verdict.TheVariants as verdict
 use Rattle.rz_core.specs.declared.status.Status.{Status}
 use Rattle.rz_core.specs.declared.status.Status.TheVariants as status
 use Rattle.rz_core.specs.declared.status.Target.TheVariants as target
-
--- a hexadecimal number: 0x and lower-case digits
-abbrev pub hex_text : ℕ → List ℕ
-hex_text n = codes "0x" ++ digits 16 false n
-
--- the report of a debloating: where the added range begins, and how many edges, instructions, site edges and sites are kept
-abbrev pub report_text : ℕ → ℕ → ℕ → ℕ → ℕ → List ℕ
-report_text added edges instructions site_edges sites =
-    codes "{\"added\":\"" ++ (hex_text added
-    ++ (codes "\",\"edges\":" ++ (decimal edges
-    ++ (codes ",\"instructions\":" ++ (decimal instructions
-    ++ (codes ",\"site_edges\":" ++ (decimal site_edges
-    ++ (codes ",\"sites\":" ++ (decimal sites ++ codes "}\n")))))))))
 
 -- what is said of an accepted file: how many loads it has, its entry and its first break
 abbrev pub check_text : ℕ → ℕ → ℕ → List ℕ
@@ -30,6 +19,30 @@ check_text loads entry first_break =
 -- what is said of a generated file: how many bytes it has
 abbrev pub generated_text : ℕ → List ℕ
 generated_text len = codes "generated " ++ (decimal len ++ codes "\n")
+
+-- what is said of a trace: how many nodes and how many edges it has
+abbrev pub traced_text : ℕ → ℕ → List ℕ
+traced_text nodes edges = codes "traced " ++ (decimal nodes ++ (32 ∷ (decimal edges ++ 10 ∷ [])))
+
+-- what is said of a verdict: how many system calls are the same, where they differ, or the word of the stub
+abbrev pub verdict_text : Verdict → List ℕ
+verdict_text (verdict.Same events) = codes "same " ++ (decimal events ++ 10 ∷ [])
+verdict_text (verdict.Differ event) = codes "differ " ++ (decimal event ++ 10 ∷ [])
+verdict_text (verdict.Stub source) = codes "stub " ++ (hex_text source ++ 10 ∷ [])
+
+-- the word of a verdict
+abbrev pub verdict_word : Verdict → List ℕ
+verdict_word (verdict.Same events) = codes "same"
+verdict_word (verdict.Differ event) = codes "differ"
+verdict_word (verdict.Stub source) = codes "stub"
+
+-- what is said of a generated program of so many functions, which makes so many steps
+abbrev pub counted_text : ℕ → ℕ → List ℕ
+counted_text functions steps = codes "functions " ++ (decimal functions ++ (codes "\nsteps " ++ (decimal steps ++ 10 ∷ [])))
+
+-- and of a new file beside its old one
+abbrev pub compared_text : Verdict → List ℕ
+compared_text v = codes "replay " ++ (verdict_word v ++ 10 ∷ [])
 
 abbrev numbered : List ℕ → ℕ → List ℕ
 numbered name i = name ++ (32 ∷ decimal i)
@@ -74,6 +87,7 @@ abbrev pub refusal_text : Status → List ℕ
 refusal_text status.Usage = codes "usage\n"
 refusal_text (status.Refused file why) = codes "refused " ++ (file ++ (32 ∷ (fault_text why ++ 10 ∷ [])))
 refusal_text (status.BadInput input line) = codes "bad input " ++ (decimal input ++ (32 ∷ (decimal line ++ 10 ∷ [])))
+refusal_text (status.BadClasses line) = codes "bad classes " ++ (decimal line ++ 10 ∷ [])
 refusal_text (status.LeftCode input address) = codes "left code " ++ (decimal input ++ (32 ∷ (hex_text address ++ 10 ∷ [])))
 refusal_text (status.RipReach address) = codes "rip reach " ++ (hex_text address ++ 10 ∷ [])
 refusal_text (status.NoRoom room) = codes "no room " ++ (room_text room ++ 10 ∷ [])
@@ -81,5 +95,6 @@ refusal_text (status.ReadFault file) = codes "read fault " ++ (file ++ 10 ∷ []
 refusal_text (status.WriteFault target.File) = codes "write fault file\n"
 refusal_text (status.WriteFault target.Text) = []
 refusal_text status.Ok = []
+refusal_text (status.Differ event) = []
 refusal_text (status.StubStop source) = []
 refusal_text status.OutOfMemory = []

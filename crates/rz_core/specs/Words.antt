@@ -4,6 +4,8 @@ use Rattle.std.specs.List.{list_all}
 use Rattle.std.specs.Option.{option_or}
 use Rattle.std.specs.Result.{result_ok}
 use Rattle.rz_text.specs.Number.{decimal, hexadecimal}
+use Rattle.rz_paths.specs.declared.level.Level.{Level}
+use Rattle.rz_paths.specs.declared.level.Level.TheVariants as level
 
 -- a number from the least to the greatest one
 abbrev pub number_within : ℕ → ℕ → Result ℕ ℕ → Option ℕ
@@ -22,23 +24,42 @@ is_name word = nat_le 1 (length word)
 abbrev pub are_inputs : List (List ℕ) → Bool
 are_inputs words = nat_le 1 (length words) && nat_le (length words) 1024 && list_all is_name words
 
--- `debloat EXE - exact LIMIT OUT INPUT..`
+-- how much is kept beyond what the runs recorded
+abbrev pub level_of : List ℕ → Option Level
+level_of word =
+    if bytes_eq word (codes "exact") then Some level.Exact
+    else if bytes_eq word (codes "zcode") then Some level.Zcode
+    else if bytes_eq word (codes "zcall") then Some level.Zcall
+    else if bytes_eq word (codes "zlib") then Some level.Zlib
+    else if bytes_eq word (codes "zfunc") then Some level.Zfunc
+    else None
+
+-- the name of a class file, or - where there is none
+abbrev pub classes_of : List ℕ → Option (List ℕ)
+classes_of word = if bytes_eq word (codes "-") then None else Some word
+
+-- `debloat EXE CLASSES LEVEL LIMIT OUT INPUT..`
 pub record Debloat : Type 0 where
   pub exe : List ℕ
+  pub classes : Option (List ℕ)
+  pub level : Level
   pub limit : ℕ
   pub out : List ℕ
   pub inputs : List (List ℕ)
 
-abbrev pub is_debloat : List ℕ → List ℕ → List ℕ → List ℕ → List ℕ → List (List ℕ) → Bool
-is_debloat command exe classes level out inputs =
-    bytes_eq command (codes "debloat") && is_name exe && bytes_eq classes (codes "-") && bytes_eq level (codes "exact")
-    && is_name out && are_inputs inputs
+abbrev pub is_debloat : List ℕ → List ℕ → List ℕ → List ℕ → List (List ℕ) → Bool
+is_debloat command exe classes out inputs =
+    bytes_eq command (codes "debloat") && is_name exe && is_name classes && is_name out && are_inputs inputs
 
 -- the words of `debloat`
+abbrev pub debloat_with : List ℕ → List ℕ → List ℕ → List (List ℕ) → Level → ℕ → Debloat
+debloat_with exe classes out inputs level limit =
+    record { exe = exe; classes = classes_of classes; level = level; limit = limit; out = out; inputs = inputs }
+
 abbrev pub debloat_of : List (List ℕ) → Option Debloat
 debloat_of (command ∷ exe ∷ classes ∷ level ∷ limit ∷ out ∷ inputs) =
-    if is_debloat command exe classes level out inputs
-    then option_map (λ n. record { exe = exe; limit = n; out = out; inputs = inputs }) (limit_of limit)
+    if is_debloat command exe classes out inputs
+    then option_and_then (λ l. option_map (debloat_with exe classes out inputs l) (limit_of limit)) (level_of level)
     else None
 debloat_of _ = None
 
@@ -109,6 +130,71 @@ run_of (command ∷ exe ∷ limit ∷ input ∷ []) =
     if is_run command exe input then option_map (λ n. record { exe = exe; limit = n; input = input }) (limit_of limit) else None
 run_of _ = None
 
+-- `trace EXE LIMIT OUT INPUT..`
+pub record Trace : Type 0 where
+  pub exe : List ℕ
+  pub limit : ℕ
+  pub out : List ℕ
+  pub inputs : List (List ℕ)
+
+abbrev pub is_trace : List ℕ → List ℕ → List ℕ → List (List ℕ) → Bool
+is_trace command exe out inputs = bytes_eq command (codes "trace") && is_name exe && is_name out && are_inputs inputs
+
+-- the words of `trace`
+abbrev pub trace_of : List (List ℕ) → Option Trace
+trace_of (command ∷ exe ∷ limit ∷ out ∷ inputs) =
+    if is_trace command exe out inputs
+    then option_map (λ n. record { exe = exe; limit = n; out = out; inputs = inputs }) (limit_of limit)
+    else None
+trace_of _ = None
+
+-- `replay EXE NEW LIMIT INPUT`
+pub record Replay : Type 0 where
+  pub exe : List ℕ
+  pub new_file : List ℕ
+  pub limit : ℕ
+  pub input : List ℕ
+
+abbrev pub is_replay : List ℕ → List ℕ → List ℕ → List ℕ → Bool
+is_replay command exe new_file input =
+    bytes_eq command (codes "replay") && is_name exe && is_name new_file && is_name input
+
+-- the words of `replay`
+abbrev pub replay_of : List (List ℕ) → Option Replay
+replay_of (command ∷ exe ∷ new_file ∷ limit ∷ input ∷ []) =
+    if is_replay command exe new_file input
+    then option_map (λ n. record { exe = exe; new_file = new_file; limit = n; input = input }) (limit_of limit)
+    else None
+replay_of _ = None
+
+-- `report EXE NEW`
+pub record Report : Type 0 where
+  pub exe : List ℕ
+  pub new_file : List ℕ
+
+abbrev pub is_report : List ℕ → List ℕ → List ℕ → Bool
+is_report command exe new_file = bytes_eq command (codes "report") && is_name exe && is_name new_file
+
+-- the words of `report`
+abbrev pub report_of : List (List ℕ) → Option Report
+report_of (command ∷ exe ∷ new_file ∷ []) =
+    if is_report command exe new_file then Some (record { exe = exe; new_file = new_file }) else None
+report_of _ = None
+
+-- `demo N OUT`
+pub record Demo : Type 0 where
+  pub count : ℕ
+  pub out : List ℕ
+
+abbrev pub is_demo : List ℕ → List ℕ → Bool
+is_demo command out = bytes_eq command (codes "demo") && is_name out
+
+-- the words of `demo`
+abbrev pub demo_of : List (List ℕ) → Option Demo
+demo_of (command ∷ count ∷ out ∷ []) =
+    if is_demo command out then option_map (λ n. record { count = n; out = out }) (functions_of count) else None
+demo_of _ = None
+
 -- the forms
 pub data Form : Type 0 where
   Debloating : Debloat → Form
@@ -116,6 +202,10 @@ pub data Form : Type 0 where
   Disassembling : Disasm → Form
   Generating : Generate → Form
   Running : Run → Form
+  Tracing : Trace → Form
+  Replaying : Replay → Form
+  Reporting : Report → Form
+  Demonstrating : Demo → Form
 
 -- the form that the words have, if any
 abbrev pub form_of : List (List ℕ) → Option Form
@@ -123,4 +213,8 @@ form_of words =
     option_or (option_map Debloating (debloat_of words))
     (option_or (option_map Checking (check_of words))
     (option_or (option_map Disassembling (disasm_of words))
-    (option_or (option_map Generating (generate_of words)) (option_map Running (run_of words)))))
+    (option_or (option_map Generating (generate_of words))
+    (option_or (option_map Running (run_of words))
+    (option_or (option_map Tracing (trace_of words))
+    (option_or (option_map Replaying (replay_of words))
+    (option_or (option_map Reporting (report_of words)) (option_map Demonstrating (demo_of words)))))))))

@@ -9,7 +9,7 @@ ghost use Rattle.rz_core.specs.Calls.Carried.{IsCarriedOut};
 
 use crate::answer::Answer;
 use crate::making::{Made, make};
-use crate::reading::{read_accepted, read_inputs};
+use crate::reading::read_sources;
 use crate::status::Status;
 use crate::words::Debloat;
 use crate::writing::write;
@@ -27,12 +27,11 @@ fn prepare<S: Store>(alloc: Global, d: &Debloat<'_>, store: &mut S) -> Result<Ma
     ensures cause { IfErr result
         (IsUnmade (debloating d.now) (store_calls S.Store store.old store.new)) }
 {
-    let elf = read_accepted(alloc, store, d.exe)?;
-    let inputs = read_inputs(alloc, store, d.inputs)?;
-    make(alloc, &elf, inputs.as_slice(), d.limit)
+    let sources = read_sources(alloc, store, d.exe, d.classes, d.inputs)?;
+    make(alloc, &sources, d.level, d.limit)
 }
 
-/// `debloat EXE - exact LIMIT OUT INPUT..`: the report, or the refusal.
+/// `debloat EXE CLASSES LEVEL LIMIT OUT INPUT..`: the report, or the refusal.
 pub fn debloat<S: Store>(alloc: Global, d: &Debloat<'_>, store: &mut S) -> Result<Answer, Status>
     requires { HasRuns d.now }
     ensures telling { S.told store.new ≡ S.told store.old }

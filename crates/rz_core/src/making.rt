@@ -1,9 +1,12 @@
-//! From a file to its new file: the trace, the new parts, the written file and the report.
+//! From a file to its new file: the trace, what the level keeps, the new parts, the written file and the report.
 
 ghost use Rattle.std.specs.Prelude.{◌≡◌, ◌≤◌, None, length, IfOk, IfErr, OnOk};
 ghost use Rattle.std.specs.List.{All};
 ghost use Rattle.rz_elf.specs.Elf.{image_of};
 ghost use Rattle.rz_machine.specs.Keeps.{Keeps};
+ghost use Rattle.rz_paths.specs.Levels.{IsWithin, Keeps as KeepsAt};
+ghost use Rattle.rz_paths.specs.Program.{program_of};
+ghost use Rattle.rz_table.specs.declared.profile_rows.TheConstants.{PROFILE};
 ghost use Rattle.rz_machine.specs.LeftCode.{StaysInCode};
 ghost use Rattle.rz_machine.specs.Nodes.{code_in, StandsIn};
 ghost use Rattle.rz_rewrite.specs.Rewritten.{CanRewrite};
@@ -11,22 +14,28 @@ ghost use Rattle.rz_machine.specs.Traced.{kept_in, with_run};
 ghost use Rattle.rz_sys.specs.Input.{IsValid};
 ghost use Rattle.rz_machine.specs.WrittenFile.{Inert};
 ghost use Rattle.rz_core.specs.Decoding.{decode_profile};
-ghost use Rattle.rz_core.specs.Debloated.{AllStay, IsDebloated, kept_of, traced, report_of, report_with};
+ghost use Rattle.rz_core.specs.Debloated.{AllStay, IsDebloated, IsReport, recorded_of, traced};
+ghost use Rattle.rz_report.specs.Report.{debloat_report_of};
 ghost use Rattle.rz_rewrite.specs.Refusals.{IsRefusal, no_room_for, rip_reach_of};
-ghost use Rattle.rz_machine.specs.Added.{added as added_of};
-ghost use Rattle.rz_core.specs.Calls.Making.{MakeRefusal, RunRefusal};
+ghost use Rattle.rz_trace.specs.Printed.{printed};
+ghost use Rattle.rz_core.specs.Recorded.{trace_report};
+ghost use Rattle.rz_core.specs.Calls.Programs.{held_sources};
+ghost use Rattle.rz_core.specs.Calls.Making.{status_of, MakeRefusal, RunRefusal, RunsRefusal, TraceRefusal as TraceRefusalOf};
 
+use crate::reading::Sources;
 use crate::status::Status;
 use crate::texts;
 use rz_aset::Record;
+use rz_classes::Classes;
 use rz_elf::elf::Elf;
 use rz_num::{Bytes, OutOfMemory, are_bytes};
-use rz_rewrite::nodes::{site_count, site_edge_count};
+use rz_paths::{Level, expand};
+use rz_report::debloat::debloat_report;
 use rz_rewrite::refusal::Refusal;
 use rz_rewrite::rewrite::{New, rewrite};
 use rz_sys::input::Input;
 use rz_table::Profile1;
-use rz_trace::{TraceRefusal, trace};
+use rz_trace::{TraceRefusal, print_trace, trace};
 use std::alloc::Global;
 
 /// A new file, and the report of it.
@@ -36,23 +45,88 @@ pub struct Made {
     pub report: Bytes,
 }
 
-/// Debloats a file for its runs of `limit` steps on these inputs, or says why there is no new file: a run left the
-/// code, or an operand is out of reach, or there is no room, or no memory.
-pub fn make(alloc: Global, elf: &Elf, inputs: &[Input], limit: u64) -> Result<Made, Status>
+/// Debloats a file for what a level keeps of its runs of `limit` steps on these inputs, or says why there is no new
+/// file: a run left the code, or an operand is out of reach, or there is no room, or no memory.
+pub fn make(alloc: Global, sources: &Sources, level: Level, limit: u64) -> Result<Made, Status>
+    requires valid { All IsValid sources.now.inputs.items }
+    requires runs { 1 ≤ length sources.now.inputs.items }
+    requires some { 1 ≤ limit }
+    ensures made { IfOk result (λ m. IsDebloated level limit (held_sources sources.now) m.bytes) }
+    ensures report { IfOk result (λ m. IsReport level limit (held_sources sources.now) m.report) }
+    ensures err { IfErr result (MakeRefusal level limit (held_sources sources.now)) }
+{
+    let recorded = record_runs(alloc, &sources.elf, sources.inputs.as_slice(), limit)?;
+    let Ok(kept) = keep(alloc, &sources.elf, &sources.classes, &recorded, level) else {
+        return Err(Status::OutOfMemory);
+    };
+    match write_new(alloc, &sources.elf, &kept) {
+        Ok(made) => Ok(made),
+        Err(why) => Err(refused(why)),
+    }
+}
+
+// What a level keeps of what runs of a file recorded, with its listed functions.
+fn keep(
+    alloc: Global,
+    elf: &Elf,
+    classes: &Classes,
+    recorded: &Record,
+    level: Level,
+) -> Result<Record, OutOfMemory>
+    requires recorded { CanRewrite decode_profile (image_of elf.now.bytes) (kept_in recorded.now) }
+    ensures keeps { IfOk result
+        (KeepsAt level (program_of PROFILE elf.now.bytes) classes.now recorded.now) }
+    ensures within { IfOk result (IsWithin recorded.now) }
+    ensures kept { IfOk result (λ kept.
+        CanRewrite decode_profile (image_of elf.now.bytes) (kept_in kept)) }
+{
+    expand::<Profile1>(alloc, elf, recorded, classes, level)
+}
+
+// The answer to a file that can't be rewritten.
+fn refused(why: Refusal) -> Status
+    ensures { result ≡ status_of why }
+{
+    match why {
+        Refusal::RipReach(address) => Status::RipReach { address },
+        Refusal::NoRoom(room) => Status::NoRoom(room),
+        Refusal::OutOfMemory => Status::OutOfMemory,
+    }
+}
+
+/// The trace file of the runs of `limit` steps of a file on these inputs, and how many nodes and edges it has, or that
+/// a run left the code, or there was no memory.
+pub fn make_trace(alloc: Global, elf: &Elf, inputs: &[Input], limit: u64) -> Result<Made, Status>
     requires valid { All IsValid inputs.now }
     requires runs { 1 ≤ length inputs.now }
     requires some { 1 ≤ limit }
-    ensures made { IfOk result (λ m. IsDebloated limit elf.now.bytes inputs.now m.bytes) }
-    ensures report { IfOk result (λ m. m.report ≡ report_of limit elf.now.bytes inputs.now) }
-    ensures err { IfErr result (MakeRefusal limit elf.now.bytes inputs.now) }
+    ensures made { IfOk result (λ m. m.bytes ≡ printed (recorded_of limit elf.now.bytes inputs.now)) }
+    ensures report { IfOk result (λ m. m.report
+        ≡ trace_report (recorded_of limit elf.now.bytes inputs.now)) }
+    ensures stay { OnOk result (AllStay limit elf.now.bytes inputs.now) }
+    ensures err { IfErr result (TraceRefusalOf limit elf.now.bytes inputs.now) }
 {
     let kept = record_runs(alloc, elf, inputs, limit)?;
-    match write_new(alloc, elf, &kept) {
-        Ok(made) => Ok(made),
-        Err(Refusal::RipReach(address)) => Err(Status::RipReach { address }),
-        Err(Refusal::NoRoom(room)) => Err(Status::NoRoom(room)),
-        Err(Refusal::OutOfMemory) => Err(Status::OutOfMemory),
+    match write_trace(alloc, &kept) {
+        Ok(traced) => Ok(traced),
+        Err(OutOfMemory) => Err(Status::OutOfMemory),
     }
+}
+
+// The trace file of a record, and how many nodes and edges it has.
+fn write_trace(alloc: Global, kept: &Record) -> Result<Made, OutOfMemory>
+    ensures bytes { IfOk result (λ m. m.bytes ≡ printed (kept_in kept.now)) }
+    ensures report { IfOk result (λ m. m.report ≡ trace_report (kept_in kept.now)) }
+{
+    let file = print_trace(alloc, kept)?;
+    let nodes = kept.nodes.len() as u64;
+    let edges = kept.edges.len() as u64;
+    let text = texts::traced(alloc, nodes, edges)?;
+    let report = Bytes::from_slice(alloc, text.as_bytes())?;
+    Ok(Made {
+        bytes: file,
+        report,
+    })
 }
 
 // What the runs of a file on these inputs record, each in its first `limit` steps.
@@ -60,11 +134,11 @@ fn record_runs(alloc: Global, elf: &Elf, inputs: &[Input], limit: u64) -> Result
     requires valid { All IsValid inputs.now }
     requires runs { 1 ≤ length inputs.now }
     requires some { 1 ≤ limit }
-    ensures kept { IfOk result (λ kept. kept_in kept ≡ kept_of limit elf.now.bytes inputs.now) }
+    ensures kept { IfOk result (λ kept. kept_in kept ≡ recorded_of limit elf.now.bytes inputs.now) }
     ensures plausible { IfOk result (λ kept.
         CanRewrite decode_profile (image_of elf.now.bytes) (kept_in kept)) }
     ensures stay { OnOk result (AllStay limit elf.now.bytes inputs.now) }
-    ensures err { IfErr result (MakeRefusal limit elf.now.bytes inputs.now) }
+    ensures err { IfErr result (RunsRefusal limit elf.now.bytes inputs.now) }
 {
     let mut kept = Record::new(alloc);
     for (k, input) in inputs.iter().enumerate() {
@@ -109,27 +183,12 @@ fn write_new(alloc: Global, elf: &Elf, kept: &Record) -> Result<Made, Refusal>
     ensures keeps { IfOk result (λ m. Keeps decode_profile elf.now.bytes m.bytes (kept_in kept.now)) }
     ensures inert { IfOk result (λ m. Inert decode_profile elf.now.bytes m.bytes (kept_in kept.now)) }
     ensures report { IfOk result (λ m. m.report
-        ≡ report_with (image_of elf.now.bytes) (kept_in kept.now)) }
+        ≡ debloat_report_of decode_profile (image_of elf.now.bytes) (kept_in kept.now)) }
     ensures reach { OnOk result (rip_reach_of decode_profile elf.now.bytes (kept_in kept.now) ≡ None) }
     ensures room { OnOk result (no_room_for decode_profile elf.now.bytes (kept_in kept.now) ≡ None) }
     ensures refused { IfErr result (IsRefusal decode_profile elf.now.bytes (kept_in kept.now)) }
 {
-    let New { bytes, base, .. } = rewrite::<Profile1>(alloc, elf, kept)?;
-    let report = report_bytes(alloc, elf, kept, base)?;
+    let New { bytes, .. } = rewrite::<Profile1>(alloc, elf, kept)?;
+    let report = debloat_report::<Profile1>(alloc, elf, kept)?;
     Ok(Made { bytes, report })
-}
-
-// The report of what is kept of a file, whose new file has its added range from this address on.
-fn report_bytes(alloc: Global, elf: &Elf, kept: &Record, base: u64) -> Result<Bytes, OutOfMemory>
-    requires { base ≡ (added_of decode_profile (image_of elf.now.bytes) (kept_in kept.now)).scratch }
-    ensures { IfOk result (λ bytes. bytes ≡ report_with (image_of elf.now.bytes) (kept_in kept.now)) }
-{
-    let nodes = kept.nodes.sorted(alloc)?;
-    let edges = kept.edges.sorted(alloc)?;
-    let sites = site_count::<Profile1>(elf, nodes.as_slice());
-    let site_edges = site_edge_count::<Profile1>(elf, edges.as_slice());
-    let instructions = kept.nodes.len() as u64;
-    let edge_count = kept.edges.len() as u64;
-    let text = texts::report(alloc, base, edge_count, instructions, site_edges, sites)?;
-    Bytes::from_slice(alloc, text.as_bytes())
 }

@@ -1,17 +1,19 @@
-//! Reads the files of the store: executables and inputs.
+//! Reads the files of the store: executables, class files and inputs.
 
-ghost use Rattle.std.specs.Prelude.{◌≡◌, ◌≤◌, ◌∷◌, [], ℕ, List, None, IfOk, IfErr};
+ghost use Rattle.std.specs.Prelude.{◌≡◌, ◌≤◌, ◌∷◌, [], ℕ, List, None, Some, IfOk, IfErr, length, option_copied};
 ghost use Rattle.std.specs.List.{All};
 ghost use Rattle.rz_outside.specs.StoreAnswers.{SameFiles, ReadsFirst};
 ghost use Rattle.rz_outside.specs.StoreCalls.{store_calls, Held};
 ghost use Rattle.rz_elf.specs.Elf.{fault_of};
 ghost use Rattle.rz_sys.specs.Input.{IsValid};
 ghost use Rattle.rz_core.specs.Inputs.{HoldsInput};
-ghost use Rattle.rz_core.specs.Reading.{Accepted, InputNumber, FileRefusal, ReadRefusal, wanted, wanted_inputs, wanted_program};
+ghost use Rattle.rz_core.specs.Classes.{HoldsClasses};
+ghost use Rattle.rz_core.specs.Reading.{Accepted, ClassFile, InputNumber, FileRefusal, ReadRefusal, wanted, wanted_classes, wanted_inputs, wanted_program, wanted_sources};
 ghost use Rattle.rz_core.specs.Calls.Carried.{IsUnread};
-ghost use Rattle.rz_core.specs.Calls.Programs.{HoldsInputs, HoldsProgram, input_refusal as input_refusal_of};
+ghost use Rattle.rz_core.specs.Calls.Programs.{HoldsInputs, HoldsProgram, HoldsSources, held_sources, class_refusal as class_refusal_of, input_refusal as input_refusal_of};
 
 use crate::status::Status;
+use rz_classes::{ClassError, Classes};
 use rz_elf::elf::Elf;
 use rz_elf::fault::ElfError;
 use rz_elf::read::read_elf;
@@ -32,6 +34,14 @@ const TEXT_MAX: u64 = 16_777_217;
 pub struct Program {
     pub elf: Elf,
     pub input: Input,
+}
+
+/// What a debloating starts from: an accepted file, its listed functions, and inputs for it.
+#[derive(Drop)]
+pub struct Sources {
+    pub elf: Elf,
+    pub classes: Classes,
+    pub inputs: Vec<Input>,
 }
 
 /// The first `max` bytes of the file of a name, or the refusal.
@@ -71,6 +81,53 @@ pub fn read_accepted<S: Store>(alloc: Global, store: &mut S, name: &Text) -> Res
         Ok(elf) => Ok(elf),
         Err(ElfError::Fault(fault)) => Err(Status::Refused { file, fault }),
         Err(ElfError::OutOfMemory) => Err(Status::OutOfMemory),
+    }
+}
+
+// The functions that the class file of a name lists, or the refusal.
+fn read_class_file<S: Store>(alloc: Global, store: &mut S, name: &Text) -> Result<Classes, Status>
+    ensures telling { S.told store.new ≡ S.told store.old }
+    ensures kept { SameFiles (S.files store.old) (S.files store.new) }
+    ensures count { S.faults store.old ≤ S.faults store.new }
+    ensures read { IfOk result
+        (HoldsClasses (Held (store_calls S.Store store.old store.new)) (Some name.now)) }
+    ensures cause { IfErr result
+        (FileRefusal (wanted name.now ClassFile) (store_calls S.Store store.old store.new)) }
+{
+    let bytes = read(alloc, store, name, TEXT_MAX)?;
+    match rz_classes::read_classes(alloc, &bytes) {
+        Ok(classes) => Ok(classes),
+        Err(error) => Err(class_refusal(error)),
+    }
+}
+
+// How a class file is refused.
+fn class_refusal(error: ClassError) -> Status
+    ensures { result ≡ class_refusal_of error }
+{
+    match error {
+        ClassError::OutOfMemory => Status::OutOfMemory,
+        ClassError::BadLine(line) | ClassError::Overlap(line) => Status::BadClasses { line },
+    }
+}
+
+/// The functions that a class file lists, or the refusal; none where there is no such file.
+pub fn read_classes<S: Store>(
+    alloc: Global,
+    store: &mut S,
+    name: Option<&Text>,
+) -> Result<Classes, Status>
+    ensures telling { S.told store.new ≡ S.told store.old }
+    ensures kept { SameFiles (S.files store.old) (S.files store.new) }
+    ensures count { S.faults store.old ≤ S.faults store.new }
+    ensures read { IfOk result
+        (HoldsClasses (Held (store_calls S.Store store.old store.new)) (option_copied name.entry)) }
+    ensures cause { IfErr result
+        (IsUnread (wanted_classes (option_copied name.entry) []) (store_calls S.Store store.old store.new)) }
+{
+    match name {
+        Some(name) => read_class_file(alloc, store, name),
+        None => Ok(Classes::none(alloc)),
     }
 }
 
@@ -154,4 +211,32 @@ pub fn read_program<S: Store>(
     let elf = read_accepted(alloc, store, exe)?;
     let input = read_input(alloc, store, input, 1)?;
     Ok(Program { elf, input })
+}
+
+/// An executable, its listed functions and its inputs, or the refusal of the first file that is refused.
+pub fn read_sources<S: Store>(
+    alloc: Global,
+    store: &mut S,
+    exe: &Text,
+    classes: Option<&Text>,
+    inputs: &[Text],
+) -> Result<Sources, Status>
+    ensures telling { S.told store.new ≡ S.told store.old }
+    ensures kept { SameFiles (S.files store.old) (S.files store.new) }
+    ensures count { S.faults store.old ≤ S.faults store.new }
+    ensures valid { IfOk result (λ s. All IsValid s.inputs.items) }
+    ensures many { IfOk result (λ s. length s.inputs.items ≡ length inputs.now) }
+    ensures read { IfOk result (λ s. HoldsSources (Held (store_calls S.Store store.old store.new))
+        exe.now (option_copied classes.entry) inputs.now (held_sources s)) }
+    ensures cause { IfErr result (IsUnread
+        (wanted_sources exe.now (option_copied classes.entry) inputs.now) (store_calls S.Store store.old store.new)) }
+{
+    let file = read_accepted(alloc, store, exe)?;
+    let functions = read_classes(alloc, store, classes)?;
+    let inputs = read_inputs(alloc, store, inputs)?;
+    Ok(Sources {
+        elf: file,
+        classes: functions,
+        inputs,
+    })
 }

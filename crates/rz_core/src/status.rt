@@ -27,6 +27,8 @@ pub enum Status {
     Refused { file: Text, fault: ElfFault },
     /// An input file breaks its grammar at this line.
     BadInput { input: u64, line: u64 },
+    /// The class file breaks its grammar at this line, or lists a function there that meets an earlier one.
+    BadClasses { line: u64 },
     /// The run of an input leaves the code at this address.
     LeftCode { input: u64, address: u64 },
     /// The instruction at this kept address names an address relative to RIP that is out of reach.
@@ -36,6 +38,8 @@ pub enum Status {
     /// A file could not be read.
     ReadFault { file: Text },
     WriteFault(Target),
+    /// Two files don't do the same, first at this system call, from 1.
+    Differ { event: u64 },
     /// The run of a file ended at the stub that names this address.
     StubStop { source: u64 },
     OutOfMemory,
@@ -50,11 +54,13 @@ pub fn number(status: &Status) -> u8
         Status::Usage => 1,
         Status::Refused { .. } => 2,
         Status::BadInput { .. } => 3,
+        Status::BadClasses { .. } => 4,
         Status::LeftCode { .. } => 5,
         Status::RipReach { .. } => 6,
         Status::NoRoom(_) => 7,
         Status::ReadFault { .. } => 8,
         Status::WriteFault(_) => 9,
+        Status::Differ { .. } => 10,
         Status::StubStop { .. } => 11,
         Status::OutOfMemory => 12,
     }

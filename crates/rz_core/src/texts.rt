@@ -1,28 +1,13 @@
 //! The texts that the tool puts.
 
 ghost use Rattle.std.specs.Prelude.{◌≡◌, string_bytes, IfOk};
-ghost use Rattle.rz_core.specs.Texts.{report_text, check_text, generated_text, fault_text as text_of_fault, refusal_text as text_of_refusal, room_text as text_of_room};
+ghost use Rattle.rz_core.specs.Texts.{check_text, generated_text, traced_text, fault_text as text_of_fault, refusal_text as text_of_refusal, room_text as text_of_room, verdict_text, counted_text, compared_text};
 
 use crate::status::{Status, Target};
 use rz_elf::fault::ElfFault;
 use rz_elf::room::Room;
+use rz_replay::compare::Verdict;
 use std::alloc::{AllocError, Global};
-
-/// The report of a debloating.
-pub fn report(
-    alloc: Global,
-    added: u64,
-    edges: u64,
-    instructions: u64,
-    site_edges: u64,
-    sites: u64,
-) -> Result<String, AllocError>
-    ensures { IfOk result (λ s. string_bytes s ≡ report_text added edges instructions site_edges sites) }
-{
-    format!(in alloc;
-        "{{\"added\":\"0x{added:x}\",\"edges\":{edges},\"instructions\":{instructions},\"site_edges\":{site_edges},\"sites\":{sites}}}\n"
-    )
-}
 
 /// What is said of an accepted file.
 pub fn check(alloc: Global, loads: u64, entry: u64, first_break: u64) -> Result<String, AllocError>
@@ -36,6 +21,42 @@ pub fn generated(alloc: Global, len: u64) -> Result<String, AllocError>
     ensures { IfOk result (λ s. string_bytes s ≡ generated_text len) }
 {
     format!(in alloc; "generated {len}\n")
+}
+
+/// What is said of a trace of so many nodes and edges.
+pub fn traced(alloc: Global, nodes: u64, edges: u64) -> Result<String, AllocError>
+    ensures { IfOk result (λ s. string_bytes s ≡ traced_text nodes edges) }
+{
+    format!(in alloc; "traced {nodes} {edges}\n")
+}
+
+/// What is said of a verdict.
+pub fn verdict(alloc: Global, verdict: Verdict) -> Result<String, AllocError>
+    ensures { IfOk result (λ s. string_bytes s ≡ verdict_text verdict) }
+{
+    match verdict {
+        Verdict::Same(events) => format!(in alloc; "same {events}\n"),
+        Verdict::Differ(event) => format!(in alloc; "differ {event}\n"),
+        Verdict::Stub(source) => format!(in alloc; "stub 0x{source:x}\n"),
+    }
+}
+
+/// What is said of a generated program of so many functions, which makes so many steps.
+pub fn counted(alloc: Global, functions: u32, steps: u64) -> Result<String, AllocError>
+    ensures { IfOk result (λ s. string_bytes s ≡ counted_text functions steps) }
+{
+    format!(in alloc; "functions {functions}\nsteps {steps}\n")
+}
+
+/// What is said of a new file beside its old one.
+pub fn compared(alloc: Global, verdict: Verdict) -> Result<String, AllocError>
+    ensures { IfOk result (λ s. string_bytes s ≡ compared_text verdict) }
+{
+    match verdict {
+        Verdict::Same(_) => format!(in alloc; "replay same\n"),
+        Verdict::Differ(_) => format!(in alloc; "replay differ\n"),
+        Verdict::Stub(_) => format!(in alloc; "replay stub\n"),
+    }
 }
 
 fn fault_text(alloc: Global, fault: ElfFault) -> Result<String, AllocError>
@@ -93,6 +114,7 @@ pub fn refusal(alloc: Global, status: &Status) -> Result<String, AllocError>
             format!(in alloc; "refused {file} {fault}\n")
         }
         Status::BadInput { input, line } => format!(in alloc; "bad input {input} {line}\n"),
+        Status::BadClasses { line } => format!(in alloc; "bad classes {line}\n"),
         Status::LeftCode { input, address } => format!(in alloc;
             "left code {input} 0x{address:x}\n"
         ),
@@ -108,6 +130,7 @@ pub fn refusal(alloc: Global, status: &Status) -> Result<String, AllocError>
         Status::WriteFault(Target::File) => format!(in alloc; "write fault file\n"),
         Status::WriteFault(Target::Text)
         | Status::Ok
+        | Status::Differ { .. }
         | Status::StubStop { .. }
         | Status::OutOfMemory => format!(in alloc; ""),
     }

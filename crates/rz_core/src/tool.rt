@@ -14,11 +14,15 @@ ghost use Rattle.rz_core.specs.Calls.Putting.{PutAfter, RefusedAfter, Runs};
 use crate::answer::Answer;
 use crate::check::check;
 use crate::debloat::debloat;
+use crate::demo::demo;
 use crate::disasm::disasm;
 use crate::generate::generate;
+use crate::replay::replay;
+use crate::report::report;
 use crate::run::run;
 use crate::status::{Status, Target};
 use crate::texts::refusal;
+use crate::trace::trace;
 use crate::words::{Form, read_form};
 use rz_num::{Bytes, Text};
 use rz_outside::{PutErr, Sink, Store};
@@ -73,6 +77,10 @@ fn carry_out<S: Store>(alloc: Global, form: &Form<'_>, store: &mut S) -> Result<
         Form::Disasm(d) => disasm(alloc, d, store),
         Form::Generate(g) => generate(alloc, g, store),
         Form::Run(r) => run(alloc, r, store),
+        Form::Trace(t) => trace(alloc, t, store),
+        Form::Replay(r) => replay(alloc, r, store),
+        Form::Report(r) => report(alloc, r, store),
+        Form::Demo(d) => demo(alloc, d, store),
     }
 }
 

@@ -3,6 +3,7 @@
 
 pub mod code;
 pub mod elf;
+pub mod executable;
 pub mod fault;
 mod file_faults;
 pub mod header;

@@ -1,2 +1,3 @@
 pub mod Flow
 pub mod Calls
+pub mod Laws

@@ -29,6 +29,18 @@ pub and_both : (x y : Bool) → x ≡ true → y ≡ true → (x && y) ≡ true
 and_both true y h k = k
 and_both false y h k = h
 
+pub or_false : (x : Bool) → (x || false) ≡ x
+or_false true = refl
+or_false false = refl
+
+pub and_yes : (x y : Bool) → y ≡ true → (x && y) ≡ x
+and_yes true y h = h
+and_yes false y h = refl
+
+pub and_no : (x y : Bool) → y ≡ false → (x && y) ≡ false
+and_no true y h = h
+and_no false y h = refl
+
 -- tests that hold together are equal
 pub same_test : (x y : Bool) → (x ≡ true → y ≡ true) → (y ≡ true → x ≡ true) → x ≡ y
 same_test true y f g = sym (f refl)

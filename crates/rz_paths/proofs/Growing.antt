@@ -8,13 +8,15 @@ use Rattle.rz_aset.specs.declared.kept.Record.{Record}
 use Rattle.rz_classes.specs.declared.listed.Function.{Function}
 use Rattle.rz_paths.specs.declared.node.Node.{Node}
 use Rattle.rz_paths.specs.declared.level.Level.{Level}
-use Rattle.rz_paths.specs.declared.level.Level.TheVariants.{Exact, Zcode, Zcall, Zlib}
+use Rattle.rz_paths.specs.declared.level.Level.TheVariants.{Exact, Zcode, Zcall, Zlib, Zfunc}
 use Rattle.rz_paths.specs.Sets.{In, Edges, joins, Reached, begin, go}
 use Rattle.rz_paths.specs.Program.{Program, direct_at, is_ret_at}
 use Rattle.rz_paths.specs.Walks.{is_passing, onward, onward_of, onward_at, ends, GoesOn, OnWalk}
+use Rattle.rz_paths.specs.Bodies.{kept, walk}
 use Rattle.rz_paths.specs.Returns.{is_first, is_call_before, step_by, step_of, steps_inside, returns_to, IsKept}
 use Rattle.rz_paths.specs.Levels.{IsNodeAt, IsEdgeAt, IsWithin, Keeps, KeepsOver, before, passes}
 use Rattle.rz_paths.proofs.PlausibleLemmas.{recorded_kept}
+use Rattle.rz_paths.proofs.PassingLemmas.{zlib_zfunc}
 use Rattle.rz_paths.proofs.Booleans.{or_cases, or_left, or_right, and_left, and_right, and_both, never, any_some, some_any}
 
 module _ (program : Program) (passing more : ℕ → Bool) (grows : (t : ℕ) → passing t ≡ true → more t ≡ true) (recorded : List ℕ) where
@@ -115,12 +117,14 @@ module _ (program : Program) (recorded : Edges) (few many : List ℕ) (grows : (
 
 -- a level keeps the nodes that the level before keeps
 node_grows : (level : Level) (program : Program) (functions : List Function) (recorded : List ℕ) (a : ℕ) →
-    IsNodeAt (before level) program (passes (before level) functions recorded) recorded a → IsNodeAt level program (passes level functions recorded) recorded a
+    IsNodeAt (before level) program (passes (before level) functions recorded) functions recorded a → IsNodeAt level program (passes level functions recorded) functions recorded a
 node_grows Exact program functions recorded a i = i
 node_grows Zcode program functions recorded a i = i
 node_grows Zcall program functions recorded a i = inl i
 node_grows Zlib program functions recorded a i = ⊎_elim inl
     (λ w. inr (walk_grows program (passes Zcall functions recorded) (passes Zlib functions recorded) (λ t h. never h) recorded a w)) i
+node_grows Zfunc program functions recorded a i = ⊎_elim (λ r. kept r)
+    (λ w. walk (walk_grows program (passes Zlib functions recorded) (passes Zfunc functions recorded) (zlib_zfunc functions recorded) recorded a w)) i
 
 edge_grows : (level : Level) (program : Program) (recorded : Edges) (few many : List ℕ) → ((a : ℕ) → In few a → In many a) → (a b : ℕ) →
     IsEdgeAt (before level) program recorded few a b → IsEdgeAt level program recorded many a b
@@ -128,6 +132,7 @@ edge_grows Exact program recorded few many grows a b h = h
 edge_grows Zcode program recorded few many grows a b h = inl (or_left (joins recorded a b) (has many a && (has (direct_at program a) b && has many b)) h)
 edge_grows Zcall program recorded few many grows a b h = edges_grow program recorded few many grows a b h
 edge_grows Zlib program recorded few many grows a b h = edges_grow program recorded few many grows a b h
+edge_grows Zfunc program recorded few many grows a b h = edges_grow program recorded few many grows a b h
 
 -- and its edges
 pub levels_grow : (level : Level) (program : Program) (functions : List Function) (recorded few many : Record) →
@@ -146,22 +151,23 @@ recorded_edge Exact program recorded nodes a b h = h
 recorded_edge Zcode program recorded nodes a b h = inl (or_left (joins recorded a b) (has nodes a && (has (direct_at program a) b && has nodes b)) h)
 recorded_edge Zcall program recorded nodes a b h = inl (or_left (joins recorded a b) (has nodes a && (has (direct_at program a) b && has nodes b)) h)
 recorded_edge Zlib program recorded nodes a b h = inl (or_left (joins recorded a b) (has nodes a && (has (direct_at program a) b && has nodes b)) h)
+recorded_edge Zfunc program recorded nodes a b h = inl (or_left (joins recorded a b) (has nodes a && (has (direct_at program a) b && has nodes b)) h)
 
-pub recorded_within : (level : Level) (program : Program) (functions : List Function) (recorded kept : Record) →
-    Keeps level program functions recorded kept → IsWithin recorded kept
-recorded_within level program functions recorded kept k = record {
-  nodes = λ a i. (k.nodes a).1 (recorded_kept level program (passes level functions recorded.nodes) recorded.nodes a i);
-  edges = λ a b h. (k.edges a b).1 (recorded_edge level program recorded.edges kept.nodes a b h);
+pub recorded_within : (level : Level) (program : Program) (functions : List Function) (recorded held : Record) →
+    Keeps level program functions recorded held → IsWithin recorded held
+recorded_within level program functions recorded held k = record {
+  nodes = λ a i. (k.nodes a).1 (recorded_kept level program (passes level functions recorded.nodes) functions recorded.nodes a i);
+  edges = λ a b h. (k.edges a b).1 (recorded_edge level program recorded.edges held.nodes a b h);
 }
 
 -- calls of equal tests are stepped over alike
-pub keeps_same : (level : Level) (program : Program) (functions : List Function) (recorded kept : Record) (passing : ℕ → Bool) →
+pub keeps_same : (level : Level) (program : Program) (functions : List Function) (recorded held : Record) (passing : ℕ → Bool) →
     ((t : ℕ) → passing t ≡ passes level functions recorded.nodes t) →
-    KeepsOver level program passing recorded kept → Keeps level program functions recorded kept
-keeps_same level program functions recorded kept passing tests k = subst P same k
+    KeepsOver level program passing functions recorded held → Keeps level program functions recorded held
+keeps_same level program functions recorded held passing tests k = subst P same k
   where
     same : passing ≡ passes level functions recorded.nodes
     same = λ i t. tests t i
 
     P : (ℕ → Bool) → Type 0
-    P test = KeepsOver level program test recorded kept
+    P test = KeepsOver level program test functions recorded held

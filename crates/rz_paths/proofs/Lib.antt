@@ -11,3 +11,4 @@ pub mod Growing
 pub mod PassingLemmas
 pub mod WorkedRows
 pub mod LevelLemmas
+pub mod BodyLemmas

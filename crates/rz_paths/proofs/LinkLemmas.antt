@@ -9,13 +9,9 @@ use Rattle.rz_paths.specs.Sets.{In, Edges, joins, Reached}
 use Rattle.rz_paths.specs.Program.{Program, is_ret_at}
 use Rattle.rz_paths.specs.Returns.{IsReturnOf, returns_to}
 use Rattle.rz_paths.specs.Calls.Inside.{IsJoined, IsInside, is_along_at, over_call, calls_back, starts_at, touches, AddsReturns, IsGrouped}
-use Rattle.rz_paths.proofs.Booleans.{or_cases, or_left, or_right, and_left, and_right, and_both, same_test, eqb_turned, never, In-cons}
+use Rattle.rz_paths.proofs.Booleans.{or_cases, or_left, or_right, or_false, and_left, and_right, and_both, same_test, eqb_turned, never, In-cons}
 use Rattle.rz_paths.proofs.FlowLemmas.{reached_from}
 use Rattle.rz_paths.proofs.ReturnLemmas.{has-push, any_edge, callee_kept, calls_return, inside_reached, starts_touch, start_of}
-
-pub or_false : (x : Bool) → (x || false) ≡ x
-or_false true = refl
-or_false false = refl
 
 pub push_joins : (es : Edges) (e : ℕ × ℕ) (a b : ℕ) → joins (es ++ e ∷ []) a b ≡ (joins es a b || (nat_eq a e.0 && nat_eq b e.1))
 push_joins es e a b =

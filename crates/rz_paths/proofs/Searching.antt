@@ -3,9 +3,10 @@ use Rattle.std.proofs.Common.{◌≡◌, ◌+◌, ◌<◌, ◌≤◌, ◌↔◌,
 use Rattle.std.proofs.lemmas.Bool.{cases_lt}
 use Rattle.std.proofs.lemmas.Option.{same_Some, slice_get-get_or, slice_get_within}
 use Rattle.rz_aset.specs.Sets.{has, with_addresses}
-use Rattle.rz_aset.proofs.Members.{has_at, place_of, has-with_addresses, with_addresses-at, with_addresses-keeps, with_addresses-only}
+use Rattle.rz_aset.proofs.Members.{has_at, place_of, with_addresses-at}
 use Rattle.rz_paths.specs.Sets.{In, Reached, begin, go}
 use Rattle.rz_paths.proofs.Booleans.{never}
+use Rattle.rz_paths.proofs.Members.{has-more_old, has-more_new, has-more_cases}
 
 -- what is found is reached, and has the starts and what each that was followed leads to
 pub record Searched (starts : List ℕ) (leads : ℕ → ℕ → Bool) (found : List ℕ) (followed : ℕ) : Type 0 where
@@ -17,8 +18,8 @@ pub record Searched (starts : List ℕ) (leads : ℕ → ℕ → Bool) (found : 
 module _ (starts : List ℕ) (leads : ℕ → ℕ → Bool) where
   pub searched_start : Searched starts leads (with_addresses [] starts) 0
   searched_start = record {
-    sound = λ b e. ⊎_elim (λ n. never n) (λ s. begin s) (with_addresses-only [] starts b e);
-    begun = λ s e. has-with_addresses [] starts s e;
+    sound = λ b e. ⊎_elim (λ n. never n) (λ s. begin s) (has-more_cases [] starts b e);
+    begun = λ s e. has-more_new [] starts s e;
     closed = λ k a b lt. absurd (omega arith);
     within = omega arith;
   }
@@ -27,8 +28,8 @@ module _ (starts : List ℕ) (leads : ℕ → ℕ → Bool) where
       (r : Searched starts leads found followed) where
     pub searched_step : Searched starts leads (with_addresses found next) (followed + 1)
     searched_step = record {
-      sound = λ b e. ⊎_elim (r.sound b) (λ n. go (r.sound a (has_at found followed a here)) (sym (same b) ∙ n)) (with_addresses-only found next b e);
-      begun = λ s e. with_addresses-keeps found next s (r.begun s e);
+      sound = λ b e. ⊎_elim (r.sound b) (λ n. go (r.sound a (has_at found followed a here)) (sym (same b) ∙ n)) (has-more_cases found next b e);
+      begun = λ s e. has-more_old found next s (r.begun s e);
       closed = closed;
       within = let lt = slice_get_within (with_addresses found next) followed a (with_addresses-at found next followed a here) in omega arith;
     }
@@ -39,11 +40,11 @@ module _ (starts : List ℕ) (leads : ℕ → ℕ → Bool) where
               | inl old ↦
                   let at = place_at k old in
                   let is : c ≡ at.0 = same_Some c at.0 (sym e ∙ with_addresses-at found next k at.0 at.1) in
-                  with_addresses-keeps found next b (r.closed k at.0 b old at.1 (subst (λ x. leads x b ≡ true) is h))
+                  has-more_old found next b (r.closed k at.0 b old at.1 (subst (λ x. leads x b ≡ true) is h))
               | inr ge ↦
                   let k-is : k ≡ followed = omega arith in
                   let is : c ≡ a = same_Some c a (sym e ∙ ap (slice_get (with_addresses found next)) k-is ∙ with_addresses-at found next followed a here) in
-                  has-with_addresses found next b (same b ∙ subst (λ x. leads x b ≡ true) is h)
+                  has-more_new found next b (same b ∙ subst (λ x. leads x b ≡ true) is h)
             ]
           where
             place_at : (k : ℕ) → k < followed → (x : ℕ) × (slice_get found k ≡ Some x)

@@ -1,12 +1,16 @@
--- Worked programs: what stands on walks and among return edges, by computing.
-use Rattle.std.proofs.Common.{ℕ, true, false, ◌==◌, ◌≡◌, cond, List, [], ◌∷◌, Some, None, refl}
+-- Worked programs: what stands on walks, in bodies and among return edges, by computing.
+use Rattle.std.proofs.Common.{ℕ, true, false, ◌==◌, ◌≡◌, cond, List, [], ◌∷◌, Some, None, codes, refl}
 use Rattle.rz_isa.specs.declared.instruction.Kind.{Kind}
 use Rattle.rz_isa.specs.declared.instruction.Kind.TheVariants.{Plain, Jcc, Jmp, Call, Ret, Syscall}
+use Rattle.rz_classes.specs.declared.listed.Function.{Function}
 use Rattle.rz_paths.specs.declared.node.Node.{Node}
-use Rattle.rz_paths.specs.Sets.{begin}
+use Rattle.rz_paths.specs.declared.level.Level.TheVariants.{Zlib, Zfunc}
+use Rattle.rz_paths.specs.Sets.{begin, go}
 use Rattle.rz_paths.specs.Program.{Program}
 use Rattle.rz_paths.specs.Walks.{IsWalk, OnWalk}
+use Rattle.rz_paths.specs.Bodies.{body_leads, InFunctions, walk, body}
 use Rattle.rz_paths.specs.Returns.{IsReturn, is_first}
+use Rattle.rz_paths.specs.Levels.{passes}
 use Rattle.rz_paths.proofs.Booleans.{never}
 
 abbrev here : Kind → ℕ → Node
@@ -95,3 +99,46 @@ twice = 0x401026 ∷ 0x40102b ∷ called
 
 pub untaken_return : IsReturn (program_in calls) twice (is_first (program_in calls) [] twice) 0x401030 0x40102b
 untaken_return = (0x401030, refl, record { ret = refl; kept = refl; reached = begin refl })
+
+-- the same with a second call of another function, a NOP and a return, which no run called
+abbrev calls_other : List (ℕ × Node)
+calls_other =
+    (0x401000, to Call 0x401005 0x401030) ∷
+    (0x401005, here Plain 0x401017) ∷
+    (0x401017, to Jcc 0x401019 0x401026) ∷
+    (0x401019, to Jmp 0x40101b 0x401005) ∷
+    (0x401026, to Call 0x40102b 0x401031) ∷
+    (0x40102b, to Jmp 0x40102d 0x401005) ∷
+    (0x401030, here Ret 0x401031) ∷
+    (0x401031, here Plain 0x401032) ∷
+    (0x401032, here Ret 0x401033) ∷ []
+
+abbrev function : ℕ → ℕ → List ℕ → Function
+function lo hi class = record { lo = lo; hi = hi; class = class }
+
+-- both functions, the second in a class
+abbrev both : List ℕ → List Function
+both class = function 0x401030 0x401031 (codes "io") ∷ function 0x401031 0x401033 class ∷ []
+
+-- at zlib the second call isn't stepped over; at zfunc it is, where the second function is in the class of the first
+pub not_at_zlib : passes Zlib (both (codes "io")) called 0x401031 ≡ false
+not_at_zlib = refl
+
+pub same_class : passes Zfunc (both (codes "io")) called 0x401031 ≡ true
+same_class = refl
+
+pub other_class : passes Zfunc (both (codes "other")) called 0x401031 ≡ false
+other_class = refl
+
+-- then no list that begins with the call is a walk
+pub other_ends_walks : (rest : List ℕ) → IsWalk (program_in calls_other) (passes Zfunc (both (codes "other")) called) called (0x401026 ∷ rest) → ⊥
+other_ends_walks [] w = never w.1.1
+other_ends_walks (b ∷ rest) w = never w.1.1
+
+-- the call brings in the whole second function
+pub body_kept : InFunctions (program_in calls_other) (passes Zfunc (both (codes "io")) called) (both (codes "io")) called 0x401032
+body_kept = body {c = 0x401026} {f = 0x401031} (walk (0x401026 ∷ 0x40102b ∷ [], (refl, (refl, refl, (refl, refl))), refl)) refl (go (begin (refl, refl)) refl)
+
+-- and nothing that stands behind its range
+pub body_ends : body_leads (program_in calls_other) (λ t. t == 0x401031) (Some (function 0x401031 0x401032 (codes "io"))) 0x401031 0x401032 ≡ false
+body_ends = refl

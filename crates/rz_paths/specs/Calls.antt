@@ -2,3 +2,5 @@
 pub mod Sound
 pub mod Inside
 pub mod Listed
+pub mod Brought
+pub mod Noted

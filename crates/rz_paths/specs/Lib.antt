@@ -1,7 +1,7 @@
 pub mod Sets
 pub mod Program
 pub mod Walks
+pub mod Bodies
 pub mod Returns
 pub mod Levels
-pub mod Plausible
 pub mod Calls

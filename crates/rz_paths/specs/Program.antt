@@ -8,17 +8,17 @@ use Rattle.rz_isa.specs.declared.rows.Row.{Row}
 use Rattle.rz_isa.specs.Decoded.{decoded}
 use Rattle.rz_isa.specs.Insn.{kind_of, target_of}
 use Rattle.rz_isa.specs.Nodes.{Code, spelled_at, direct_by}
-use Rattle.rz_image.specs.Memory.{fetch}
 use Rattle.rz_elf.specs.Elf.{image_of}
+use Rattle.rz_machine.specs.Nodes.{code_in}
 use Rattle.rz_paths.specs.declared.node.Node.{Node}
 
 -- the instruction at each address where one stands
 abbrev pub Program : Type 0
 Program = ℕ → Option Node
 
--- the bytes of a file that may be executed, from an address on: as many of the first 15 as there are
+-- the executable bytes of a file, from an address on
 abbrev pub code_of : List ℕ → Code
-code_of bytes a = fetch (image_of bytes).loads a 15
+code_of bytes = code_in (image_of bytes).loads
 
 -- what bytes at an address spell, as far as the flow of control goes
 abbrev pub node_in : Decoded → ℕ → Option Node

@@ -4,16 +4,19 @@ ghost use Rattle.std.specs.Prelude.{◌≡◌, ◌↔◌, ◌⊎◌, true, ℕ, 
 ghost use Rattle.rz_isa.specs.Decoded.{decoded};
 ghost use Rattle.rz_aset.specs.declared.kept.Record.{Record as Kept};
 ghost use Rattle.rz_aset.specs.Sets.{has};
+ghost use Rattle.rz_elf.specs.Elf.{image_of};
+ghost use Rattle.rz_machine.specs.Nodes.{IsPlausible, code_in};
+ghost use Rattle.rz_machine.specs.Traced.{kept_in};
 ghost use Rattle.rz_paths.specs.Sets.{In, joins};
-ghost use Rattle.rz_paths.specs.Program.{code_of, program_of};
+ghost use Rattle.rz_paths.specs.Program.{program_of};
 ghost use Rattle.rz_paths.specs.Levels.{IsNodeAt, IsEdgeAt, IsWithin, Keeps, KeepsOver, before, passes};
 ghost use Rattle.rz_paths.specs.Walks.{OnWalk};
-ghost use Rattle.rz_paths.specs.Plausible.{IsPlausible};
 ghost use Rattle.rz_paths.specs.Calls.Sound.{IsSound};
 
+use crate::bodies::function_nodes;
 use crate::listing::{Listing, listed, unlisted};
 use crate::node::Program;
-use crate::passing::recorded_starts;
+use crate::passing::{live_starts, recorded_starts};
 use crate::returns::kept_edges;
 use crate::sets::{add_all, add_edges, union};
 use crate::walks::walk_nodes;
@@ -35,6 +38,9 @@ pub enum Level {
     Zcall,
     /// And those on walks over calls of listed functions whose starts were recorded.
     Zlib,
+    /// And those on walks over calls of listed functions of a class of which a start was recorded, with the bodies of the
+    /// functions that such calls bring in.
+    Zfunc,
 }
 
 /// What a level keeps of a record of a file, with its listed functions. Time and memory are linear in the addresses that
@@ -48,16 +54,18 @@ pub fn expand<T: InsnTable>(
     level: Level,
 ) -> Result<Record, OutOfMemory>
     // Runs could have left the record.
-    requires { IsPlausible (decoded T.rows) (code_of elf.now.bytes) elf.now.entry rec.now }
+    requires { IsPlausible (decoded T.rows) (code_in (image_of elf.now.bytes).loads)
+        (image_of elf.now.bytes).entry (kept_in rec.now) }
     ensures exact { IfOk result (Keeps level (program_of T.rows elf.now.bytes) classes.now rec.now) }
     ensures recorded { IfOk result (IsWithin rec.now) }
     ensures grows { IfOk result (λ kept. (few : Kept) →
         Keeps (before level) (program_of T.rows elf.now.bytes) classes.now rec.now few → IsWithin few kept) }
-    ensures plausible { IfOk result (IsPlausible (decoded T.rows) (code_of elf.now.bytes) elf.now.entry) }
+    ensures plausible { IfOk result (λ kept. IsPlausible (decoded T.rows)
+        (code_in (image_of elf.now.bytes).loads) (image_of elf.now.bytes).entry (kept_in kept)) }
 {
     let passing = passing_targets(alloc, classes, &rec.nodes, level)?;
     let program = program_for::<T>(alloc, elf, &rec.nodes, level)?;
-    expand_in(alloc, &program, &passing, rec, level)
+    expand_in(alloc, &program, &passing, classes, rec, level)
 }
 
 // The instructions of a file, those listed that a level looks at.
@@ -72,7 +80,7 @@ fn program_for<'a, T: InsnTable>(
     match level {
         Level::Exact => Ok(unlisted(alloc, elf)),
         Level::Zcode => listed(alloc, elf, recorded, false),
-        Level::Zcall | Level::Zlib => listed(alloc, elf, recorded, true),
+        Level::Zcall | Level::Zlib | Level::Zfunc => listed(alloc, elf, recorded, true),
     }
 }
 
@@ -88,6 +96,7 @@ fn passing_targets(
     match level {
         Level::Exact | Level::Zcode | Level::Zcall => Ok(AddrSet::new(alloc)),
         Level::Zlib => recorded_starts(alloc, classes, recorded),
+        Level::Zfunc => live_starts(alloc, classes, recorded),
     }
 }
 
@@ -96,13 +105,14 @@ fn expand_in<P: Program>(
     alloc: Global,
     program: &P,
     passing: &AddrSet,
+    classes: &Classes,
     rec: &Record,
     level: Level,
 ) -> Result<Record, OutOfMemory>
     requires { IsSound (P.code program.now) rec.now.nodes rec.now.edges }
-    ensures { IfOk result (KeepsOver level (P.code program.now) (has passing.now) rec.now) }
+    ensures { IfOk result (KeepsOver level (P.code program.now) (has passing.now) classes.now rec.now) }
 {
-    let nodes = level_nodes(alloc, program, passing, &rec.nodes, level)?;
+    let nodes = level_nodes(alloc, program, passing, classes, &rec.nodes, level)?;
     let edges = level_edges(alloc, program, rec, &nodes, level)?;
     Ok(Record { nodes, edges })
 }
@@ -112,15 +122,17 @@ fn level_nodes<P: Program>(
     alloc: Global,
     program: &P,
     passing: &AddrSet,
+    classes: &Classes,
     recorded: &AddrSet,
     level: Level,
 ) -> Result<AddrSet, OutOfMemory>
     ensures { IfOk result (λ set. (a : ℕ) →
-        In set a ↔ IsNodeAt level (P.code program.now) (has passing.now) recorded.now a) }
+        In set a ↔ IsNodeAt level (P.code program.now) (has passing.now) classes.now recorded.now a) }
 {
     match level {
         Level::Exact | Level::Zcode => copied(alloc, recorded),
         Level::Zcall | Level::Zlib => with_walks(alloc, program, passing, recorded),
+        Level::Zfunc => function_nodes(alloc, program, passing, classes, recorded),
     }
 }
 
@@ -153,7 +165,7 @@ fn level_edges<P: Program>(
 {
     match level {
         Level::Exact => copied_edges(alloc, &rec.edges),
-        Level::Zcode | Level::Zcall | Level::Zlib => {
+        Level::Zcode | Level::Zcall | Level::Zlib | Level::Zfunc => {
             kept_edges(alloc, program, &rec.edges, nodes)
         }
     }

@@ -2,6 +2,7 @@
 //! the bodies of functions of the same class, and the edges among all of them.
 #![tactic(auto)]
 
+mod bodies;
 mod level;
 mod listing;
 mod node;

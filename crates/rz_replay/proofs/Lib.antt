@@ -1,1 +1,4 @@
 mod RunTextRows
+pub mod VerdictLaws
+pub mod CountLaws
+mod VerdictRows

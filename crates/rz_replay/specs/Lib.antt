@@ -1,1 +1,3 @@
 pub mod RunText
+pub mod Verdict
+pub mod Counted

@@ -63,8 +63,8 @@ fn push_moved(alloc: Global, text: &mut Bytes, bytes: &[u8]) -> Result<(), OutOf
     text.push_all(hex::encode(alloc, bytes)?.as_bytes())
 }
 
-// The last line.
-fn last_line(alloc: Global, elf: &Elf, end: Option<End>) -> Result<String, AllocError>
+/// The last line of that text: how a run of a file ended, or the stub at which it ended, or that it runs on.
+pub fn last_line(alloc: Global, elf: &Elf, end: Option<End>) -> Result<String, AllocError>
     ensures { IfOk result (λ line. string_bytes line ≡ line_of_end elf.now end) }
 {
     let Some(end) = end else {

@@ -102,4 +102,4 @@ HasPlacement dec x w kept places =
 abbrev pub IsPaced : Decoder → List ℕ → List ℕ → Kept → Type 0
 IsPaced dec x w kept =
     (input : Input) → Paced dec kept.edges (layout_of dec (image_of x) kept) (bound_of kept)
-        (start (image_of x) input) (start (image_of w) input)
+    (start (image_of x) input) (start (image_of w) input)

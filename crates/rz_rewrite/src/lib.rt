@@ -1,7 +1,7 @@
 //! The rewriter: the new file of a file, for what is kept of it.
 #![tactic(auto)]
 
-mod added;
+pub mod added;
 mod code;
 mod fragments;
 mod law;

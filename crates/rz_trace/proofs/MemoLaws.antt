@@ -1,5 +1,5 @@
 -- What a memo says of a kept set stands when more is added, and adding it again changes nothing.
-use Rattle.std.proofs.Common.{◌≡◌, ℕ, Bool, true, false, ◌&&◌, ◌||◌, ◌==◌, List, [], ◌∷◌, Option, Some, None, All, get_or, refl, sym, ap, ap₂, ◌∙◌, subst, eq-eqb}
+use Rattle.std.proofs.Common.{◌≡◌, ℕ, Bool, true, false, ◌&&◌, ◌||◌, ◌==◌, List, [], ◌∷◌, Option, Some, get_or, refl, ap₂, ◌∙◌, eq-eqb}
 use Rattle.std.proofs.lemmas.Bool.{or_left, or_right}
 use Rattle.rz_aset.specs.Sets.{with_address}
 use Rattle.rz_machine.specs.Kept.{Kept, Edges, has_node, has_edge, with_edges}

@@ -5,7 +5,8 @@ use Rattle.rz_text.specs.Number.{hexadecimal}
 use Rattle.rz_trace.specs.declared.error.TraceFault.TheVariants.{BadLine}
 use Rattle.rz_trace.specs.Grammar.{entry_of}
 use Rattle.std.specs.Fmt.{digits}
-use Rattle.rz_trace.specs.Printed.{text_of}
+use Rattle.rz_aset.specs.Sorted.{sorted, sorted_edges}
+use Rattle.rz_trace.specs.Printed.{printed, text_of}
 use Rattle.rz_trace.specs.Fault.{fault_of}
 use Rattle.rz_trace.specs.Value.{record_of}
 
@@ -33,6 +34,11 @@ text = codes "razor-trace 1\nn 0x401000\nn 0x401005\nn 0x401007\nn 0x40100c\ne 0
 what_is_printed : text_of nodes edges ≡ text
 unfolding digits nodes edges text
 what_is_printed = refl
+
+-- the order in which they were seen doesn't count
+what_is_sorted : printed (record { nodes = 0x40100c ∷ 0x401000 ∷ 0x401007 ∷ 0x401005 ∷ []; edges = (0x401007, 0x40100c) ∷ (0x401000, 0x401005) ∷ (0x401005, 0x401007) ∷ [] }) ≡ text
+unfolding digits sorted sorted_edges text
+what_is_sorted = refl
 
 no_fault : fault_of text ≡ None
 unfolding entry_of hexadecimal text

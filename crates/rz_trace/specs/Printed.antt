@@ -8,6 +8,7 @@ use Rattle.std.specs.List.Sorted.{IsPermutation}
 use Rattle.std.specs.Fmt.{digits}
 use Rattle.rz_aset.specs.declared.kept.Record.{Record}
 use Rattle.rz_aset.specs.Sets.{edge_cmp, has}
+use Rattle.rz_machine.specs.Kept.{Kept, sorted, sorted_edges}
 use Rattle.rz_trace.specs.declared.entry.Entry.{Entry}
 use Rattle.rz_trace.specs.declared.entry.Entry.TheVariants.{Begin, Node, Edge, End}
 
@@ -37,15 +38,9 @@ entries_of nodes edges = Begin ∷ (map (λ at. Node at) nodes ++ (map (λ edge.
 abbrev pub text_of : List ℕ → List (ℕ × ℕ) → List ℕ
 text_of nodes edges = flat_map ended_line (entries_of nodes edges)
 
--- a text is that of a record's nodes and edges in ascending order
-pub record IsPrinted (kept : Record) (text : List ℕ) : Type 0 where
-  pub nodes : List ℕ
-  pub edges : List (ℕ × ℕ)
-  pub nodes_ascend : IsSorted nat_cmp nodes
-  pub edges_ascend : IsSorted edge_cmp edges
-  pub same_nodes : IsPermutation kept.nodes nodes
-  pub same_edges : IsPermutation kept.edges edges
-  pub value : text ≡ text_of nodes edges
+-- the text of a kept set: its nodes and its edges in ascending order
+abbrev pub printed : Kept → List ℕ
+printed kept = text_of (sorted kept.nodes) (sorted_edges kept.edges)
 
 -- the ends of the edges are among the nodes
 abbrev pub HasEnds : Record → Type 0

@@ -1,8 +1,9 @@
 // Printing trace files.
 
 ghost use Rattle.std.specs.Prelude.{◌≡◌, ◌++◌, OnOk, IfOk};
+ghost use Rattle.rz_machine.specs.Traced.{kept_in};
 ghost use Rattle.rz_trace.specs.declared.entry.Entry.TheVariants as entry;
-ghost use Rattle.rz_trace.specs.Printed.{ended_line, IsPrinted, ReadsBack};
+ghost use Rattle.rz_trace.specs.Printed.{ended_line, printed, ReadsBack};
 ghost use Rattle.rz_trace.specs.Calls.Printing.{edge_lines, node_lines};
 
 use rz_aset::Record;
@@ -12,7 +13,7 @@ use std::alloc::Global;
 /// The text of a record: a line for each node in ascending order, and for each edge in ascending order, between the first and the last
 /// line. It refuses for want of memory alone.
 pub fn print_trace(alloc: Global, kept: &Record) -> Result<Bytes, OutOfMemory>
-    ensures text { IfOk result (IsPrinted kept.now) }
+    ensures text { IfOk result (λ text. text ≡ printed (kept_in kept.now)) }
     ensures read_back { IfOk result (λ text. ReadsBack text kept.now) }
 {
     // Each node and each edge is listed once.

@@ -2,6 +2,8 @@
 use Rattle.std.specs.Prelude.{◌≡◌, ℕ, List}
 use Rattle.rz_outside.specs.StoreCalls.{StoreCalls, Held}
 use Rattle.rz_sys.specs.declared.input.Input.{Input}
+use Rattle.rz_rewrite.specs.declared.refusal.Refusal.{Refusal}
+use Rattle.rz_rewrite.specs.declared.refusal.Refusal.TheVariants as refusal
 use Rattle.rz_core.specs.declared.making.Made.{Made}
 use Rattle.rz_core.specs.declared.status.Status.{Status}
 use Rattle.rz_core.specs.declared.status.Status.TheVariants as status
@@ -10,7 +12,9 @@ use Rattle.rz_core.specs.Decoding.{decode_profile}
 use Rattle.rz_core.specs.Reading.{Course, HoldAll}
 use Rattle.rz_core.specs.Command.{Command}
 use Rattle.rz_machine.specs.LeftCode.{LeavesCode}
-use Rattle.rz_core.specs.Debloated.{DebloatEnds, traced}
+use Rattle.rz_paths.specs.declared.level.Level.{Level}
+use Rattle.rz_core.specs.Debloated.{Sources, DebloatEnds, LeavesFirst, traced}
+use Rattle.rz_core.specs.Recorded.{TraceEnds}
 use Rattle.rz_core.specs.Causes.{EndsWith}
 
 -- a refusal that ends a command, or want of memory
@@ -24,9 +28,15 @@ EndRefusalOf Refused End answer = End answer
 abbrev pub EndRefusal : (Status → Type 0) → Status → Type 0
 EndRefusal End answer = EndRefusalOf (kind_of answer) End answer
 
+-- the answer to a file that can't be rewritten
+abbrev pub status_of : Refusal → Status
+status_of (refusal.RipReach address) = status.RipReach address
+status_of (refusal.NoRoom room) = status.NoRoom room
+status_of refusal.OutOfMemory = status.OutOfMemory
+
 -- why nothing was made: a run left the code, or an operand is out of reach, or there is no room for the parts, or no memory
-abbrev pub MakeRefusal : ℕ → List ℕ → List Input → Status → Type 0
-MakeRefusal limit x inputs answer = EndRefusal (DebloatEnds limit x inputs) answer
+abbrev pub MakeRefusal : Level → ℕ → Sources → Status → Type 0
+MakeRefusal level limit s answer = EndRefusal (DebloatEnds level limit s) answer
 
 -- why the run on the input of this number wasn't recorded whole: it left the code, or there was no memory
 abbrev pub RunRefusal : ℕ → ℕ → List ℕ → Input → Status → Type 0
@@ -34,13 +44,23 @@ RunRefusal number limit x input (status.LeftCode n address) = (n ≡ number) × 
 RunRefusal number limit x input status.OutOfMemory = Unit {0}
 RunRefusal number limit x input _ = ⊥
 
+-- why the runs on these inputs weren't all recorded: one left the code, or there was no memory
+abbrev pub RunsRefusal : ℕ → List ℕ → List Input → Status → Type 0
+RunsRefusal limit x inputs (status.LeftCode n address) = LeavesFirst limit x 1 inputs n address
+RunsRefusal limit x inputs status.OutOfMemory = Unit {0}
+RunsRefusal limit x inputs _ = ⊥
+
+-- why no trace was made
+abbrev pub TraceRefusal : ℕ → List ℕ → List Input → Status → Type 0
+TraceRefusal limit x inputs answer = EndRefusal (TraceEnds limit x inputs) answer
+
 -- what is made of the files that a command reads
 pub record IsMade (c : Command) (s : StoreCalls) (m : Made) : Type 0 where
   pub contents : List (List ℕ)
   pub read : HoldAll (Held s) c.reads contents
   pub ends : c.Ends contents status.Ok
   pub new : c.New contents m.bytes
-  pub report_is : m.report ≡ c.text contents
+  pub report_is : c.Text contents m.bytes m.report
 
 -- a command is refused before its write
 abbrev pub IsUnmade : Command → StoreCalls → Status → Type 0

@@ -1,4 +1,4 @@
--- The same of a program: what a record of it meets.
+-- What a record of a program meets, before and after it is expanded.
 use Rattle.std.specs.Prelude.{◌≡◌, ℕ, Bool, true, false, List, Option, Some, None, is_some}
 use Rattle.rz_isa.specs.Nodes.{is_site}
 use Rattle.rz_paths.specs.declared.node.Node.{Node}

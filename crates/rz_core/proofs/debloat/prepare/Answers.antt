@@ -1,47 +1,28 @@
-use Rattle.std.proofs.Common.{◌≤◌, ℕ, length, sym, ap, ◌∙◌, subst, inr, refl}
-use Rattle.rz_outside.specs.StoreCalls.{StoreCalls, store_calls, Held}
-use Rattle.rz_core.specs.Calls.Held.{debloating}
+use Rattle.std.proofs.Common.{◌≤◌, ℕ, sym, subst}
+use Rattle.rz_outside.specs.StoreCalls.{StoreCalls, store_calls}
+use Rattle.rz_core.specs.Calls.Held.{debloating, debloat_words}
 use Rattle.rz_core.specs.Calls.Making.{IsUnmade}
-use Rattle.rz_core.specs.Reading.{wanted_inputs}
+use Rattle.rz_core.specs.Calls.Programs.{held_sources}
 use Rattle.rz_core.proofs.CauseLaws.{handed_on_err, unread_unmade}
 use Rattle.rz_core.proofs.DebloatLaws.{is_made, is_unmade}
-use Rattle.rz_core.proofs.InputLaws.{as_many, later_inputs, later_unread}
 use Rattle.rz_core.proofs.debloat.prepare.Goals as goal
 
-pub returns-in_err-inputs-clause-cause : goal.returns-in_err-inputs-clause-cause
-returns-in_err-inputs-clause-cause g c =
-    let s : StoreCalls = store_calls g.S.Store c.args.store.now c.read_inputs.new.store in
-    let t : StoreCalls = store_calls g.S.Store c.read_accepted.new.store c.read_inputs.new.store in
-    let d = c.args.d.now in
-    let elf = c.in_ok-elf.ensures in
-    let st = c.in_err-inputs.field-0.0 in
-    let unread = later_unread (wanted_inputs 1 d.inputs.now) s t st elf.telling elf.kept elf.count refl refl c.in_err-inputs.ensures.cause in
-    handed_on_err c.from_residual-in_err-inputs.result st (IsUnmade (debloating d) s) c.from_residual-in_err-inputs.ensures.1
-    (unread_unmade (debloating d) s st (inr ((c.in_ok-elf.elf.bytes, elf.read, elf.accepted), unread)))
+pub returns-in_err-sources-clause-cause : goal.returns-in_err-sources-clause-cause
+returns-in_err-sources-clause-cause g c =
+    let s : StoreCalls = store_calls g.S.Store c.args.store.now c.read_sources.new.store in
+    let d = debloating c.args.d.now in
+    let st = c.in_err-sources.field-0.0 in
+    handed_on_err c.from_residual.result st (IsUnmade d s) c.from_residual.ensures.1 (unread_unmade d s st c.in_err-sources.ensures.cause)
 
 pub make-requires-clause-runs : goal.make-requires-clause-runs
-make-requires-clause-runs g c =
-    let t : StoreCalls = store_calls g.S.Store c.read_accepted.new.store c.read_inputs.new.store in
-    let read = c.in_ok-inputs.ensures.read in
-    let many = ap length c.as_slice.ensures.value ∙ ap length read.inputs_are ∙ as_many (Held t) 1 c.args.d.now.inputs.now read.texts read.read in
-    subst (λ (n : ℕ). 1 ≤ n) (sym many) c.requires.1
+make-requires-clause-runs g c = subst (λ (n : ℕ). 1 ≤ n) (sym c.in_ok-sources.ensures.many) c.requires.1
 
 pub returns-clause-made : goal.returns-clause-made
 returns-clause-made g c =
-    let s : StoreCalls = store_calls g.S.Store c.args.store.now c.read_inputs.new.store in
-    let t : StoreCalls = store_calls g.S.Store c.read_accepted.new.store c.read_inputs.new.store in
-    let d = c.args.d.now in
-    let elf = c.in_ok-elf.ensures in
-    let read = c.in_ok-inputs.ensures.read in
-    is_made d.exe.now d.out.now d.inputs.now d.limit s c.in_ok-elf.elf.bytes read.texts (elf.read, elf.accepted, later_inputs s t d.inputs.now read.texts 1 elf.telling elf.kept read.read)
-    c.as_slice.result.now (c.as_slice.ensures.value ∙ read.inputs_are) c.make.result c.make.ensures.made c.make.ensures.report
+    let s : StoreCalls = store_calls g.S.Store c.args.store.now c.read_sources.new.store in
+    is_made (debloat_words c.args.d.now) s (held_sources c.in_ok-sources.sources) c.in_ok-sources.ensures.read c.make.result c.make.ensures.made c.make.ensures.report
 
 pub returns-clause-cause : goal.returns-clause-cause
 returns-clause-cause g c =
-    let s : StoreCalls = store_calls g.S.Store c.args.store.now c.read_inputs.new.store in
-    let t : StoreCalls = store_calls g.S.Store c.read_accepted.new.store c.read_inputs.new.store in
-    let d = c.args.d.now in
-    let elf = c.in_ok-elf.ensures in
-    let read = c.in_ok-inputs.ensures.read in
-    is_unmade d.exe.now d.out.now d.inputs.now d.limit s c.in_ok-elf.elf.bytes read.texts (elf.read, elf.accepted, later_inputs s t d.inputs.now read.texts 1 elf.telling elf.kept read.read)
-    c.as_slice.result.now (c.as_slice.ensures.value ∙ read.inputs_are) c.make.result c.make.ensures.err
+    let s : StoreCalls = store_calls g.S.Store c.args.store.now c.read_sources.new.store in
+    is_unmade (debloat_words c.args.d.now) s (held_sources c.in_ok-sources.sources) c.in_ok-sources.ensures.read c.make.result c.make.ensures.err

@@ -12,6 +12,7 @@ returns-in-Ok-clause-carried g c =
         ends = tt;
         kind = refl;
         text_is = c.in-Ok.ensures;
-        written = tt;
+        w = [];
+        written = refl;
       },
     )

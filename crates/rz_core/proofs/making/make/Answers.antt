@@ -1,13 +1,45 @@
+use Rattle.std.proofs.Common.{List, ap, sym, subst, ◌∙◌}
+use Rattle.rz_sys.specs.declared.input.Input.{Input}
 use Rattle.rz_machine.specs.Traced.{kept_in}
-use Rattle.rz_core.proofs.MadeLaws.{debloated_of, report_is}
+use Rattle.rz_core.specs.Debloated.{AllStay, recorded_of}
+use Rattle.rz_core.specs.Calls.Making.{RunsRefusal, MakeRefusal}
+use Rattle.rz_core.specs.Calls.Programs.{held_sources}
+use Rattle.rz_core.proofs.CauseLaws.{handed_on_err}
+use Rattle.rz_core.proofs.MadeLaws.{debloated_of, is_kept, make_refusal, refused_of}
 use Rattle.rz_core.proofs.making.make.Goals as goal
 
-pub returns-in-Ok-clause-made : goal.returns-in-Ok-clause-made
-returns-in-Ok-clause-made c =
-    let kept = c.in_ok-kept.ensures in
-    let made = c.in-Ok.ensures in
-    debloated_of c.args.elf.now.bytes c.args.limit c.args.inputs.now (kept_in c.in_ok-kept.kept) c.in-Ok.made.bytes kept.kept kept.stay made.reach made.room made.keeps made.inert
+pub returns-in-Ok-write_new-clause-made : goal.returns-in-Ok-write_new-clause-made
+returns-in-Ok-write_new-clause-made c =
+    let from = held_sources c.args.sources.now in
+    let inputs = c.as_slice.ensures.value in
+    let runs = c.in_ok-recorded.ensures in
+    let recorded = runs.kept ∙ ap (λ (is : List Input). recorded_of c.args.limit from.exe is) inputs in
+    let stay = subst (λ (is : List Input). AllStay c.args.limit from.exe is) inputs runs.stay in
+    let kept = c.in-Ok.ensures in
+    let made = c.in-Ok-write_new.ensures in
+    debloated_of c.args.level c.args.limit from c.in_ok-recorded.recorded c.in-Ok.kept recorded kept.keeps stay c.in-Ok-write_new.made.bytes
+    kept.within made.reach made.room made.keeps made.inert
 
-pub returns-in-Ok-clause-report : goal.returns-in-Ok-clause-report
-returns-in-Ok-clause-report c =
-    report_is c.args.elf.now.bytes c.args.limit c.args.inputs.now (kept_in c.in_ok-kept.kept) c.in-Ok.made.report c.in_ok-kept.ensures.kept c.in-Ok.ensures.report
+pub returns-in-Ok-write_new-clause-report : goal.returns-in-Ok-write_new-clause-report
+returns-in-Ok-write_new-clause-report c =
+    let from = held_sources c.args.sources.now in
+    let recorded = c.in_ok-recorded.ensures.kept ∙ ap (λ (is : List Input). recorded_of c.args.limit from.exe is) c.as_slice.ensures.value in
+    (kept_in c.in-Ok.kept, is_kept c.args.level c.args.limit from c.in_ok-recorded.recorded c.in-Ok.kept recorded c.in-Ok.ensures.keeps, c.in-Ok-write_new.ensures.report)
+
+pub returns-clause-err : goal.returns-clause-err
+returns-clause-err c =
+    let from = held_sources c.args.sources.now in
+    let inputs = c.as_slice.ensures.value in
+    let runs = c.in_ok-recorded.ensures in
+    let recorded = runs.kept ∙ ap (λ (is : List Input). recorded_of c.args.limit from.exe is) inputs in
+    let stay = subst (λ (is : List Input). AllStay c.args.limit from.exe is) inputs runs.stay in
+    subst (MakeRefusal c.args.level c.args.limit from) (sym c.refused.ensures)
+    (refused_of c.args.level c.args.limit from c.in_ok-recorded.recorded c.in-Ok.kept recorded c.in-Ok.ensures.keeps stay c.in-Err.why c.in-Err.ensures.refused)
+
+pub returns-in_err-recorded-clause-err : goal.returns-in_err-recorded-clause-err
+returns-in_err-recorded-clause-err c =
+    let st = c.in_err-recorded.field-0.0 in
+    let from = held_sources c.args.sources.now in
+    handed_on_err c.from_residual.result st (MakeRefusal c.args.level c.args.limit from) c.from_residual.ensures.1
+    (make_refusal c.args.level c.args.limit from st
+    (subst (λ (is : List Input). RunsRefusal c.args.limit from.exe is st) c.as_slice.ensures.value c.in_err-recorded.ensures.err))

@@ -1,4 +1,4 @@
-use Rattle.std.proofs.Common.{ap, subst, ◌∙◌}
+use Rattle.std.proofs.Common.{ap, refl, subst, ◌∙◌}
 use Rattle.std.specs.Prelude.{[], ◌∷◌}
 use Rattle.rz_outside.specs.StoreCalls.{StoreCalls, store_calls}
 use Rattle.rz_sys.specs.declared.input.Input.{Input}
@@ -29,6 +29,7 @@ returns-in-Ok-clause-carried g c =
         ends = subst (λ (i : Input). RunEnds limit program.elf.bytes i a.status) held.input_is ran.ends;
         kind = ran.kind;
         text_is = ran.text_is ∙ ap (λ (i : Input). ran_text limit program.elf.bytes i) held.input_is;
-        written = tt;
+        w = [];
+        written = refl;
       },
     )

@@ -9,3 +9,8 @@ pub returns-in-Debloat-clause-carried : goal.returns-in-Debloat-clause-carried
 returns-in-Debloat-clause-carried g c =
     let s : StoreCalls = store_calls g.S.Store c.args.store.now c.debloat.new.store in
     subst (λ form. IsCarriedOut (command_of (form_words form)) s c.debloat.result) (sym c.in-Debloat.is) c.debloat.ensures.carried
+
+pub returns-in-Trace-clause-carried : goal.returns-in-Trace-clause-carried
+returns-in-Trace-clause-carried g c =
+    let s : StoreCalls = store_calls g.S.Store c.args.store.now c.trace.new.store in
+    subst (λ form. IsCarriedOut (command_of (form_words form)) s c.trace.result) (sym c.in-Trace.is) c.trace.ensures.carried

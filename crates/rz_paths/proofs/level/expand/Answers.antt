@@ -1,4 +1,5 @@
 use Rattle.std.proofs.lemmas.Result.{IfOk-weaker}
+use Rattle.rz_elf.specs.Elf.{image_of}
 use Rattle.rz_aset.specs.Sets.{has}
 use Rattle.rz_paths.specs.Program.{program_of}
 use Rattle.rz_paths.proofs.PlausibleLemmas.{plausible_kept, stands_sound}
@@ -31,5 +32,5 @@ returns-clause-grows g c =
 pub returns-clause-plausible : goal.returns-clause-plausible
 returns-clause-plausible g c =
     IfOk-weaker c.expand_in.result _ _
-    (λ kept k. plausible_kept c.args.level g.T.InsnTable.rows c.args.elf.now.bytes (has c.in_ok-passing.passing) c.args.elf.now.entry c.args.rec.now kept c.requires k)
+    (λ kept k. plausible_kept c.args.level g.T.InsnTable.rows c.args.elf.now.bytes (has c.in_ok-passing.passing) c.args.classes.now (image_of c.args.elf.now.bytes).entry c.args.rec.now kept c.requires k)
     (rw c.in_ok-program.ensures at c.expand_in.ensures)

@@ -1,6 +1,6 @@
 use Rattle.std.proofs.Common.{ap, ◌∙◌}
 use Rattle.rz_aset.specs.Sets.{has}
-use Rattle.rz_flow.proofs.Walks.{has-neighbours_out}
+use Rattle.rz_flow.specs.Laws.Neighbours.{has-neighbours_out}
 use Rattle.rz_paths.proofs.LinkLemmas.{returns_added}
 use Rattle.rz_paths.proofs.returns.add_returns.Goals as goal
 

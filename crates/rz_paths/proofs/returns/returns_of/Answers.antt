@@ -1,8 +1,8 @@
 use Rattle.std.proofs.Common.{◌≡◌, ℕ, List, [], ◌∷◌, nat_eq, sym, ◌∙◌}
 use Rattle.std.proofs.lemmas.Result.{IfOk-weaker}
 use Rattle.rz_aset.specs.Sets.{has}
-use Rattle.rz_paths.proofs.Booleans.{eqb_turned}
-use Rattle.rz_paths.proofs.LinkLemmas.{returns_found, or_false}
+use Rattle.rz_paths.proofs.Booleans.{eqb_turned, or_false}
+use Rattle.rz_paths.proofs.LinkLemmas.{returns_found}
 use Rattle.rz_paths.proofs.returns.returns_of.Goals as goal
 
 pub returns : goal.returns

@@ -1,4 +1,4 @@
-use Rattle.std.proofs.Common.{◌≡◌, Some, None, sym, ap, subst, refl, ◌∙◌}
+use Rattle.std.proofs.Common.{Some, None, sym, ap, subst, refl, ◌∙◌}
 use Rattle.rz_machine.specs.Kept.{Kept}
 use Rattle.rz_machine.specs.Traced.{kept_in}
 use Rattle.rz_trace.specs.declared.memo.Edge.{Edge}

@@ -1,1 +1,0 @@
-use Rattle.rz_core.proofs.making.write_new.Goals as goal

@@ -1,0 +1,4 @@
+pub mod DebloatLaws
+pub mod JsonTexts
+pub mod ReportRows
+pub mod StubCounts
