@@ -1,5 +1,5 @@
 -- Bits and powers of two.
-use Rattle.std.proofs.Common.{◌≡◌, ℕ, suc, ◌+◌, ◌-◌, ◌*◌, ◌/◌, ◌%◌, ◌^◌, ◌<◌, ◌≤◌, subst, sym, ◌∙◌, ap, arith, inl, inr, zero-mul}
+use Rattle.std.proofs.Common.{◌≡◌, ℕ, suc, ◌+◌, ◌*◌, ◌/◌, ◌%◌, ◌^◌, ◌<◌, ◌≤◌, subst, sym, ◌∙◌, ap, arith, inl, inr, zero-mul}
 use Rattle.std.proofs.Math.Nat.{pow-le-pow_right, pow-suc, add_comm}
 use Rattle.std.proofs.lemmas.Bool.{cases_lt}
 use Rattle.std.proofs.lemmas.Nat.{pow_pos, pow-add, mod_below, one_shl, shl_whole, shr_below, mul-add-lt, leading_length, or_lt, or_disjoint, pow_below}

@@ -16,6 +16,3 @@ pub use double_shifts::double_shift;
 pub use products::{div, mul};
 pub use scans::scan;
 pub use shifts::shift;
-
-#[cfg(test)]
-mod tests;

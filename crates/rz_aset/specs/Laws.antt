@@ -1,2 +1,4 @@
+-- Lemmas that other crates cite.
 pub mod Sorted
 pub mod Members
+pub mod Places

@@ -8,6 +8,3 @@ mod kept;
 pub use addresses::AddrSet;
 pub use edges::EdgeSet;
 pub use kept::Record;
-
-#[cfg(test)]
-mod tests;

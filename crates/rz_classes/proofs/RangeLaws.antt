@@ -10,7 +10,7 @@ use Rattle.std.proofs.Math.Bool.{and_comm}
 use Rattle.std.proofs.lemmas.List.Folds.{list_any_none, list_any_at}
 use Rattle.std.proofs.lemmas.List.Elements.{All-get_or, All-from_get_or, All-push}
 use Rattle.std.proofs.lemmas.List.Quantifiers.{position-Some, all_pairs_push}
-use Rattle.rz_text.proofs.Places.{position-found, position-absent, position-push_first, position-push_fails}
+use Rattle.rz_text.specs.Laws.Places.{position-found, position-absent, position-push_first, position-push_fails}
 use Rattle.rz_classes.specs.declared.listed.Function.{Function}
 use Rattle.rz_classes.specs.Function.{AreApart, IsIndexed, meets}
 

@@ -4,8 +4,8 @@ use Rattle.std.specs.List.{cons_option}
 use Rattle.std.specs.Option.{option_to_list}
 use Rattle.std.proofs.lemmas.List.Elements.{filter_map-append}
 use Rattle.rz_text.specs.Lines.{Line, has_content, lines_from, words}
-use Rattle.rz_text.proofs.LineLaws.{length-lines_from}
-use Rattle.rz_text.proofs.Reading.{IsRead, IsRead-start, IsRead-more}
+use Rattle.rz_text.specs.Laws.Lines.{length-lines_from}
+use Rattle.rz_text.specs.Laws.Reading.{IsRead, IsRead-start, IsRead-more}
 use Rattle.rz_classes.specs.declared.listed.Function.{Function}
 use Rattle.rz_classes.specs.Grammar.{function_of}
 use Rattle.rz_classes.specs.Fault.{fault_behind, fault_of_line, functions}

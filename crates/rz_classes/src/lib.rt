@@ -11,6 +11,3 @@ pub use error::ClassError;
 pub use list::Classes;
 pub use listed::Function;
 pub use reader::read_classes;
-
-#[cfg(test)]
-mod tests;

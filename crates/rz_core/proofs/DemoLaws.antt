@@ -5,7 +5,6 @@ use Rattle.rz_outside.specs.StoreCalls.{StoreCalls}
 use Rattle.rz_sys.specs.Input.{empty_input, IsValid}
 use Rattle.rz_sys.specs.declared.input.Input.{Input}
 use Rattle.rz_gen.specs.declared.file.TheConstants.{GEN_STEPS_LIMIT}
-use Rattle.rz_gen.specs.Generated.{generated}
 use Rattle.rz_elf.specs.Loaded.{ElfFile, IsRead, elf_of, loaded}
 use Rattle.rz_machine.specs.declared.machine.Machine.{Machine}
 use Rattle.rz_machine.specs.Start.{start}

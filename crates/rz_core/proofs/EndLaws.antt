@@ -17,7 +17,7 @@ use Rattle.rz_input.specs.Value.{input_of}
 use Rattle.rz_core.specs.declared.status.Status.{Status}
 use Rattle.rz_core.specs.declared.status.Status.TheVariants as status
 use Rattle.rz_core.specs.Decoding.{decode_profile}
-use Rattle.rz_core.specs.Words.{Debloat, Run, Trace, Replay, Demo, Form, Debloating, Checking, Disassembling, Generating, Running, Tracing, Replaying, Reporting, Demonstrating}
+use Rattle.rz_core.specs.Words.{Debloat, Run, Trace, Replay, Form, Debloating, Checking, Disassembling, Generating, Running, Tracing, Replaying, Reporting, Demonstrating}
 use Rattle.rz_core.specs.Inputs.{HoldInputs}
 use Rattle.rz_core.specs.Classes.{HoldsClasses}
 use Rattle.rz_core.specs.Reading.{wanted_inputs, wanted_sources, HoldAll}
@@ -26,7 +26,7 @@ use Rattle.rz_core.specs.Recorded.{TraceEnds, trace_command}
 use Rattle.rz_core.specs.Command.{EndsWell}
 use Rattle.rz_core.specs.Ran.{stop_of, RunEnds, run_command}
 use Rattle.rz_core.specs.Replayed.{replay_command}
-use Rattle.rz_core.specs.Demonstrated.{demonstrated, demo_command}
+use Rattle.rz_core.specs.Demonstrated.{demonstrated}
 use Rattle.rz_core.specs.Commands.{command_of}
 use Rattle.rz_core.specs.Causes.{CauseOf, LastAnswer}
 use Rattle.rz_core.specs.Exact.{IsExactOf}

@@ -3,6 +3,7 @@ use Rattle.std.proofs.Common.{◌≡◌, ℕ, Bool, true, false, List, refl, sym
 use Rattle.std.specs.Prelude.{length}
 use Rattle.rz_aset.specs.declared.kept.Record.{Record}
 use Rattle.rz_aset.specs.Sets.{has, has_edge}
+use Rattle.rz_aset.specs.Laws.Sorted.{sorted_same, sorted_edges_same}
 use Rattle.rz_classes.specs.declared.listed.Function.{Function}
 use Rattle.rz_table.specs.declared.profile_rows.TheConstants.{PROFILE}
 use Rattle.rz_elf.specs.Elf.{image_of}
@@ -17,10 +18,9 @@ use Rattle.rz_paths.specs.declared.level.Level.TheVariants as level
 use Rattle.rz_paths.specs.Sets.{In, Edges, joins}
 use Rattle.rz_paths.specs.Program.{Program, program_of}
 use Rattle.rz_paths.specs.Levels.{IsEdgeAt, Keeps as KeepsAt}
-use Rattle.rz_paths.proofs.Growing.{edges_grow}
+use Rattle.rz_paths.specs.Laws.Growing.{edges_grow}
 use Rattle.rz_core.specs.Decoding.{decode_profile}
 use Rattle.rz_core.specs.Debloated.{Sources, record_of, recorded_of, IsKept}
-use Rattle.rz_core.proofs.SortLaws.{sorted_same, sorted_edges_same}
 
 -- truths that follow from each other are equal
 alike : (x y : Bool) → (x ≡ true → y ≡ true) → (y ≡ true → x ≡ true) → x ≡ y

@@ -6,7 +6,6 @@ pub mod EndLaws
 pub mod UnionLaws
 pub mod InputLaws
 pub mod SourceLaws
-pub mod SortLaws
 pub mod KeptLaws
 pub mod MadeLaws
 pub mod DebloatLaws

@@ -1,12 +1,12 @@
 -- What is asked of a file before it is rewritten, and what is made of it.
-use Rattle.std.proofs.Common.{◌≡◌, ℕ, suc, ◌<◌, ◌≤◌, true, List, [], ◌∷◌, None, sym, ap, ◌∙◌, subst}
+use Rattle.std.proofs.Common.{◌≡◌, ℕ, suc, ◌<◌, ◌≤◌, true, List, [], ◌∷◌, None, ap, ◌∙◌, subst}
 use Rattle.std.specs.Prelude.{slice_index}
 use Rattle.std.specs.List.{AllByRecursion}
 use Rattle.rz_machine.specs.declared.machine.Machine.{Machine}
 use Rattle.rz_sys.specs.declared.input.Input.{Input}
 use Rattle.rz_aset.specs.declared.kept.Record.{Record}
 use Rattle.rz_table.specs.declared.profile_rows.TheConstants.{PROFILE}
-use Rattle.rz_machine.specs.Kept.{Kept, has_node, has_edge}
+use Rattle.rz_machine.specs.Kept.{Kept, has_edge}
 use Rattle.rz_paths.specs.declared.level.Level.{Level}
 use Rattle.rz_paths.specs.Program.{program_of}
 use Rattle.rz_paths.specs.Levels.{IsWithin, Keeps as KeepsAt}

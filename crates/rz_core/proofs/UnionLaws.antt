@@ -13,8 +13,8 @@ use Rattle.rz_machine.specs.Traced.{with_run}
 use Rattle.rz_machine.specs.LeftCode.{StaysInCode}
 use Rattle.rz_machine.specs.Recorded.{IsUncut}
 use Rattle.rz_machine.specs.Nodes.{code_in, StandsIn}
-use Rattle.rz_machine.proofs.SetLaws.{has_edge-with_edges, has_node-with_nodes}
-use Rattle.rz_machine.proofs.RecordedLaws.{HasRun, run_no_cut, ended_no_cut, with_run_has, nothing_stands}
+use Rattle.rz_machine.specs.Laws.Sets.{has_edge-with_edges, has_node-with_nodes}
+use Rattle.rz_machine.specs.Laws.Recorded.{HasRun, run_no_cut, ended_no_cut, with_run_has, nothing_stands}
 use Rattle.rz_rewrite.specs.Rewritten.{CanRewrite}
 use Rattle.rz_core.specs.Decoding.{decode_profile}
 use Rattle.rz_core.specs.declared.status.Status.{Status}

@@ -1,6 +1,6 @@
 -- The texts that the tool puts, beside reports, listings and run texts: answers and refusals, each ended by one line feed.
 use Rattle.std.specs.Prelude.{ℕ, List, [], ◌∷◌, ◌++◌, codes, decimal}
-use Rattle.rz_report.specs.Report.{hex_text}
+use Rattle.rz_num.specs.Texts.{hex_text}
 use Rattle.rz_elf.specs.declared.fault.ElfFault.{ElfFault}
 use Rattle.rz_elf.specs.declared.fault.ElfFault.TheVariants as fault
 use Rattle.rz_elf.specs.declared.room.Room.{Room}

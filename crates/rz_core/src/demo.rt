@@ -1,11 +1,10 @@
 //! The command `demo`: a generated program is debloated, and what is written is compared with it.
 
-ghost use Rattle.std.specs.Prelude.{◌≡◌, ◌≤◌, ◌++◌, None, string_bytes, IfOk, IfErr};
-ghost use Rattle.std.specs.List.{All};
+ghost use Rattle.std.specs.Prelude.{◌≡◌, ◌≤◌, ◌++◌, None, IfOk, IfErr};
 ghost use Rattle.rz_outside.specs.StoreCalls.{store_calls};
 ghost use Rattle.rz_elf.specs.Elf.{fault_of};
 ghost use Rattle.rz_elf.specs.Loaded.{IsRead, elf_of};
-ghost use Rattle.rz_sys.specs.Input.{IsValid, empty_input};
+ghost use Rattle.rz_sys.specs.Input.{empty_input};
 ghost use Rattle.rz_gen.specs.declared.file.TheConstants.{GEN_STEPS_LIMIT as LIMIT};
 ghost use Rattle.rz_paths.specs.declared.level.Level.TheVariants as level;
 ghost use Rattle.rz_replay.specs.Counted.{steps_made};

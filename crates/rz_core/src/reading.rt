@@ -1,6 +1,6 @@
 //! Reads the files of the store: executables, class files and inputs.
 
-ghost use Rattle.std.specs.Prelude.{◌≡◌, ◌≤◌, ◌∷◌, [], ℕ, List, None, Some, IfOk, IfErr, length, option_copied};
+ghost use Rattle.std.specs.Prelude.{◌≡◌, ◌≤◌, ◌∷◌, [], None, Some, IfOk, IfErr, length, option_copied};
 ghost use Rattle.std.specs.List.{All};
 ghost use Rattle.rz_outside.specs.StoreAnswers.{SameFiles, ReadsFirst};
 ghost use Rattle.rz_outside.specs.StoreCalls.{store_calls, Held};

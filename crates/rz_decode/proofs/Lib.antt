@@ -1,11 +1,3 @@
-pub mod Prefixes
 pub mod Bounds
-pub mod Rejoined
-pub mod Filler
-pub mod Filling
-pub mod Room
-pub mod Serving
-pub mod Verdicts
-pub mod Exactness
 pub mod Unfinished
 pub mod Rows

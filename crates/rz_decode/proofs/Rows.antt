@@ -17,17 +17,17 @@ use Rattle.rz_isa.specs.Fields.{fields, build_op}
 use Rattle.rz_isa.specs.Regular.{is_regular}
 use Rattle.rz_isa.specs.Index.{is_listed}
 use Rattle.rz_isa.specs.Decoded.{Front, front_by, front_at, front_len, front_width, rm_part, imm_part, first_row, last_opcode, parts_of, suits, serves, decoded_by, decoded}
-use Rattle.rz_isa.proofs.Exclusion.{rm_fits_len}
-use Rattle.rz_isa.proofs.Inverse.{regular_of}
-use Rattle.rz_isa.proofs.Tests.{some_same, and_both}
+use Rattle.rz_isa.specs.Laws.Exclusion.{rm_fits_len}
+use Rattle.rz_isa.specs.Laws.Inverse.{regular_of}
+use Rattle.rz_isa.specs.Laws.Tests.{some_same, and_both}
 use Rattle.rz_decode.specs.declared.front.Front as fronts
 use Rattle.rz_decode.specs.declared.front.Opcode as opcodes
 use Rattle.rz_decode.specs.Calls.Decode.{Says, ListsServing, EndsBeforeOpcode}
 use Rattle.rz_decode.specs.Calls.Views.{opcode_option, front_view, is_whole_rm}
-use Rattle.rz_decode.proofs.Filling.{last_byte, suits_of}
-use Rattle.rz_decode.proofs.Room.{imm_eight}
-use Rattle.rz_decode.proofs.Verdicts.{Laws, Verdict, named, begun, unserved, verdict_by, whole_of}
-use Rattle.rz_decode.proofs.Exactness.{whole_spells, complete_law, short_law, fifteen_law}
+use Rattle.rz_decode.specs.Laws.Filling.{last_byte, suits_of}
+use Rattle.rz_decode.specs.Laws.Room.{imm_eight}
+use Rattle.rz_decode.specs.Laws.Verdicts.{Laws, Verdict, named, begun, unserved, verdict_by, whole_of}
+use Rattle.rz_decode.specs.Laws.Exactness.{whole_spells, complete_law, short_law, fifteen_law}
 use Rattle.rz_decode.proofs.Unfinished.{ends_before}
 
 -- ---- any row that serves decides

@@ -8,10 +8,10 @@ use Rattle.rz_isa.specs.Spelling.{is_prefix}
 use Rattle.rz_isa.specs.Reading.{Head, skip_while, behind_rex, opcode_at, head_at}
 use Rattle.rz_isa.specs.Table.{is_plain}
 use Rattle.rz_isa.specs.Decoded.{front_at, front_len, parts_of, serves}
-use Rattle.rz_isa.proofs.Exclusion.{plain_row, list_all_get}
-use Rattle.rz_isa.proofs.Front.{head_of_spelling}
-use Rattle.rz_isa.proofs.Tests.{none_some}
-use Rattle.rz_decode.proofs.Verdicts.{Laws, regular_at, whole_of}
+use Rattle.rz_isa.specs.Laws.Exclusion.{plain_row, list_all_get}
+use Rattle.rz_isa.specs.Laws.Front.{head_of_spelling}
+use Rattle.rz_isa.specs.Laws.Tests.{none_some}
+use Rattle.rz_decode.specs.Laws.Verdicts.{Laws, regular_at, whole_of}
 
 -- a spelling has its opcode, so the bytes end before a spelling by a row that serves them does
 pub ends_before : (rows : List Row) (n : ℕ) (row : Row) (bytes : List ℕ) → Laws rows → are_bytes bytes ≡ true → slice_get rows n ≡ Some row → serves bytes row ≡ true → opcode_at (behind_rex (skip_while is_prefix bytes)) ≡ None

@@ -42,7 +42,7 @@ fn prefix_count(bytes: &[u8]) -> usize
 }
 
 /// The legacy prefixes, and what stands behind them.
-#[tactic(auto, using(crate::proofs::Prefixes::drop_passed))]
+#[tactic(auto, using(crate::specs::Laws::Prefixes::drop_passed))]
 pub fn split_prefixes(bytes: &[u8]) -> (&[u8], &[u8])
     ensures front { result.0.now ≡ take_while is_prefix_byte bytes.now }
     ensures rest { result.1.now ≡ skip_while is_prefix_byte bytes.now }

@@ -1,7 +1,7 @@
 -- The texts of operands: numbers, registers and memory.
-use Rattle.std.specs.Prelude.{ℕ, suc, ℤ, pos, negsuc, ◌==◌, if◌then◌else◌, false, List, [], ◌++◌, codes, decimal, Option, Some, None}
-use Rattle.std.specs.Fmt.{digits}
+use Rattle.std.specs.Prelude.{ℕ, suc, ℤ, pos, negsuc, ◌==◌, if◌then◌else◌, List, [], ◌++◌, codes, decimal, Option, Some, None}
 use Rattle.std.specs.Int.{cast_unsigned, w64}
+use Rattle.rz_num.specs.Texts.{hex_text}
 use Rattle.rz_num.specs.declared.width.Width.{Width}
 use Rattle.rz_num.specs.declared.width.Width.TheVariants.{W8, W16, W32, W64}
 use Rattle.rz_isa.specs.declared.instruction.Mem.{Mem}
@@ -15,10 +15,6 @@ use Rattle.rz_isa.specs.declared.instruction.BitIndex.{BitIndex}
 use Rattle.rz_isa.specs.declared.instruction.BitIndex.TheVariants as indexes
 use Rattle.rz_disasm.specs.Registers.{number_name, register_name}
 
--- a number: 0x and its hexadecimal digits in lower case
-abbrev pub hexadecimal : ℕ → List ℕ
-hexadecimal n = codes "0x" ++ digits 16 false n
-
 -- the size of what stands in memory
 abbrev pub size_word : Width → List ℕ
 size_word W8 = codes "byte"
@@ -28,8 +24,8 @@ size_word W64 = codes "qword"
 
 -- a displacement behind a base or an index, with its sign
 abbrev pub displacement : ℤ → List ℕ
-displacement (pos n) = if n == 0 then [] else codes "+" ++ hexadecimal n
-displacement (negsuc n) = codes "-" ++ hexadecimal (suc n)
+displacement (pos n) = if n == 0 then [] else codes "+" ++ hex_text n
+displacement (negsuc n) = codes "-" ++ hex_text (suc n)
 
 -- an index and its scale
 abbrev pub scaled : ℕ → ℕ → List ℕ
@@ -38,7 +34,7 @@ scaled index scale = number_name W64 index ++ (codes "*" ++ decimal scale)
 -- the sum of a base, a scaled index and a displacement; a displacement alone is an address of 64 bits
 -- (Intel SDM, volume 1, section 3.7.5)
 abbrev pub sum_of : Option ℕ → Option ℕ → ℕ → ℤ → List ℕ
-sum_of None None scale disp = hexadecimal (cast_unsigned w64 disp)
+sum_of None None scale disp = hex_text (cast_unsigned w64 disp)
 sum_of None (Some index) scale disp = scaled index scale ++ displacement disp
 sum_of (Some base) None scale disp = number_name W64 base ++ displacement disp
 sum_of (Some base) (Some index) scale disp = number_name W64 base ++ (codes "+" ++ (scaled index scale ++ displacement disp))
@@ -49,7 +45,7 @@ memory_text m = codes "[" ++ (sum_of m.base m.index m.scale m.disp ++ codes "]")
 
 -- memory named relative to RIP, by its address
 abbrev pub relative_text : ℕ → List ℕ
-relative_text address = codes "[rip " ++ (hexadecimal address ++ codes "]")
+relative_text address = codes "[rip " ++ (hex_text address ++ codes "]")
 
 -- a register at a width, or memory with its size
 unfoldable pub place_text : Width → Place → List ℕ
@@ -65,12 +61,12 @@ address_text w (places.At address) = relative_text address
 
 abbrev pub operand_text : Width → Operand → List ℕ
 operand_text w (operands.Place p) = place_text w p
-operand_text w (operands.Imm n) = hexadecimal n
+operand_text w (operands.Imm n) = hex_text n
 
 abbrev pub count_text : Count → List ℕ
-count_text (counts.Imm n) = hexadecimal n
+count_text (counts.Imm n) = hex_text n
 count_text counts.Cl = codes "cl"
 
 abbrev pub index_text : Width → BitIndex → List ℕ
 index_text w (indexes.Reg n) = number_name w n
-index_text w (indexes.Imm n) = hexadecimal n
+index_text w (indexes.Imm n) = hex_text n

@@ -1,11 +1,12 @@
 -- The text of each instruction: its name and its operands, the destination first
 -- (Intel SDM, volume 1, section 1.3.2.1, "Instruction Operands").
 use Rattle.std.specs.Prelude.{ℕ, ◌==◌, if◌then◌else◌, List, [], ◌∷◌, ◌++◌, codes}
+use Rattle.rz_num.specs.Texts.{hex_text}
 use Rattle.rz_num.specs.declared.width.Width.TheVariants.{W8, W64}
 use Rattle.rz_isa.specs.declared.instruction.Insn.{Insn}
 use Rattle.rz_isa.specs.declared.instruction.Insn.TheVariants as insns
 use Rattle.rz_disasm.specs.Registers.{number_name, register_name}
-use Rattle.rz_disasm.specs.Operands.{hexadecimal, place_text, address_text, operand_text, count_text, index_text}
+use Rattle.rz_disasm.specs.Operands.{place_text, address_text, operand_text, count_text, index_text}
 use Rattle.rz_disasm.specs.Names.{cond_name, arith_name, unary_name, wide_name, shift_name, double_shift_name, bit_name, scan_name, flag_name, extend_name, convert_name, sign_fill_name, string_name}
 
 -- operands with a comma and a space between them
@@ -41,13 +42,13 @@ lone_text _ = []
 
 -- transfers of control
 abbrev pub transfer_text : Insn → List ℕ
-transfer_text (insns.Jcc cond target) = statement (codes "j" ++ cond_name cond) (hexadecimal target ∷ [])
-transfer_text (insns.Jrcxz target) = statement (codes "jrcxz") (hexadecimal target ∷ [])
-transfer_text (insns.Jmp target) = statement (codes "jmp") (hexadecimal target ∷ [])
+transfer_text (insns.Jcc cond target) = statement (codes "j" ++ cond_name cond) (hex_text target ∷ [])
+transfer_text (insns.Jrcxz target) = statement (codes "jrcxz") (hex_text target ∷ [])
+transfer_text (insns.Jmp target) = statement (codes "jmp") (hex_text target ∷ [])
 transfer_text (insns.JmpInd src) = statement (codes "jmp") (place_text W64 src ∷ [])
-transfer_text (insns.Call target) = statement (codes "call") (hexadecimal target ∷ [])
+transfer_text (insns.Call target) = statement (codes "call") (hex_text target ∷ [])
 transfer_text (insns.CallInd src) = statement (codes "call") (place_text W64 src ∷ [])
-transfer_text (insns.Ret pop) = statement (codes "ret") (if pop == 0 then [] else hexadecimal pop ∷ [])
+transfer_text (insns.Ret pop) = statement (codes "ret") (if pop == 0 then [] else hex_text pop ∷ [])
 transfer_text x = lone_text x
 
 -- shifts, bits and scans
@@ -69,7 +70,7 @@ arithmetic_text (insns.Unary op w dst) = statement (unary_name op) (place_text w
 arithmetic_text (insns.Wide op w src) = statement (wide_name op) (place_text w src ∷ [])
 arithmetic_text (insns.Imul2 w dst src) = statement (codes "imul") (number_name w dst ∷ place_text w src ∷ [])
 arithmetic_text (insns.Imul3 w dst src imm) =
-    statement (codes "imul") (number_name w dst ∷ place_text w src ∷ hexadecimal imm ∷ [])
+    statement (codes "imul") (number_name w dst ∷ place_text w src ∷ hex_text imm ∷ [])
 arithmetic_text x = bit_text x
 
 -- moves, and then all others

@@ -8,6 +8,3 @@ mod statement;
 mod text;
 
 pub use text::line;
-
-#[cfg(test)]
-mod tests;

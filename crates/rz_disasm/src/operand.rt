@@ -1,7 +1,7 @@
 // The texts of operands.
 
 ghost use Rattle.std.specs.Prelude.{◌≡◌, Some};
-ghost use Rattle.rz_disasm.specs.Operands.{displacement, memory_text, scaled, size_word as word_for_size, sum_of};
+ghost use Rattle.rz_disasm.specs.Operands.{displacement, memory_text, scaled, size_word as word_for_size};
 
 use crate::register::register_name;
 use rz_isa::{Mem, Place, Reg};

@@ -1,6 +1,6 @@
 // The texts of instructions.
 
-ghost use Rattle.std.specs.Prelude.{◌≡◌, Some, ◌∷◌, [], ◌++◌};
+ghost use Rattle.std.specs.Prelude.{◌≡◌, Some, ◌++◌};
 ghost use Rattle.rz_disasm.specs.Registers.{number_name, register_name};
 ghost use Rattle.rz_disasm.specs.Operands.{operand_text, count_text, index_text};
 ghost use Rattle.rz_disasm.specs.Statements.{operands_text, statement as statement_text, lone_text, transfer_text, bit_text, arithmetic_text, insn_text};

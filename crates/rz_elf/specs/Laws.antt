@@ -1,3 +1,4 @@
+-- Lemmas that other crates cite.
 pub mod Accepted
 pub mod Conditions
 pub mod HeaderList

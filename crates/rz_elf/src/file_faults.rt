@@ -1,6 +1,6 @@
 // The faults of a file as a whole.
 
-ghost use Rattle.std.specs.Prelude.{◌≡◌, ◌+◌, ◌*◌, ◌≤◌, ◌<◌, ℕ, drop, length, Some, None};
+ghost use Rattle.std.specs.Prelude.{◌≡◌, ◌+◌, ◌*◌, ◌≤◌, ◌<◌, drop, length, Some, None};
 ghost use Rattle.rz_elf.specs.Elf.{field, file_header, file_conditions, first_of as first_fault};
 
 use crate::fault::ElfFault;

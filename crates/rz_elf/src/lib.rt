@@ -15,5 +15,3 @@ pub mod read;
 pub mod room;
 pub mod segment;
 pub mod stamp;
-#[cfg(test)]
-mod tests;

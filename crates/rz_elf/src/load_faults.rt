@@ -1,6 +1,6 @@
 // The faults of the loads together.
 
-ghost use Rattle.std.specs.Prelude.{◌≡◌, ◌≤◌, ◌==◌, length, map, sum_by};
+ghost use Rattle.std.specs.Prelude.{◌≡◌, ◌≤◌, length, map, sum_by};
 ghost use Rattle.std.specs.List.{list_any};
 ghost use Rattle.rz_elf.specs.Elf.{first_of as first_fault, has_entry as enters, load_conditions};
 

@@ -1,6 +1,6 @@
 //! Reads files.
 
-ghost use Rattle.std.specs.Prelude.{◌≡◌, ◌+◌, ◌<◌, ◌≤◌, filter, map, IfOk, IfErr, IsErrOf, None, Some};
+ghost use Rattle.std.specs.Prelude.{◌≡◌, ◌+◌, ◌<◌, ◌≤◌, filter, map, IfOk, IfErr, None, Some};
 ghost use Rattle.std.specs.List.{AllByRecursion};
 ghost use Rattle.rz_elf.specs.Elf.{fault_of, file_header, highest_end as highest_of, image_of, placed};
 ghost use Rattle.rz_elf.specs.Loaded.{elf_of, is_load_header, load_of, loaded, IsCause, IsLow};

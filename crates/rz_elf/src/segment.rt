@@ -1,10 +1,11 @@
 //! Program headers (System V gABI, chapter 5, "Program Header").
 
-ghost use Rattle.std.specs.Prelude.{◌≡◌, ◌+◌, ◌≤◌, length};
+ghost use Rattle.std.specs.Prelude.{◌≡◌, ◌+◌, ◌++◌, ◌≤◌, length, OnOk};
 ghost use Rattle.rz_elf.specs.Elf.{segment_of, is_load, is_stack, is_dynamic, is_stack_code, has_other_flags, is_writable_code, is_larger_in_file, leaves_file, is_misaligned, is_far, isnt_above, last_page, shares_page, has_entry};
+ghost use Rattle.rz_elf.specs.WrittenFile.{segment_bytes};
 
 use rz_image::perm::Perm;
-use rz_num::{get_u32, get_u64};
+use rz_num::{OutOfMemory, get_u32, get_u64, push_u32, push_u64};
 
 // The types that matter: PT_LOAD, PT_DYNAMIC, PT_INTERP and PT_GNU_STACK.
 const LOAD: u32 = 1;
@@ -55,6 +56,21 @@ impl Segment {
             memsz: get_u64(bytes, 40),
             align: get_u64(bytes, 48),
         }
+    }
+
+    /// Appends the bytes of the program header. It refuses for want of memory alone.
+    pub fn push(&self, out: &mut Vec<u8>) -> Result<(), OutOfMemory>
+        ensures { OnOk result (out.new.items ≡ out.old.items ++ segment_bytes self.now) }
+    {
+        push_u32(out, self.kind)?;
+        push_u32(out, self.flags)?;
+        push_u64(out, self.offset)?;
+        push_u64(out, self.vaddr)?;
+        push_u64(out, self.paddr)?;
+        push_u64(out, self.filesz)?;
+        push_u64(out, self.memsz)?;
+        push_u64(out, self.align)?;
+        Ok(())
     }
 
     /// Whether it is loaded.

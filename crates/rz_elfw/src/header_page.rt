@@ -1,13 +1,12 @@
 // The header page of a written file.
 
-ghost use Rattle.std.specs.Prelude.{◌≡◌, ◌≤◌, ◌++◌, length, flat_map, OnOk};
-ghost use Rattle.byteorder.specs.Endian.{little_bytes};
+ghost use Rattle.std.specs.Prelude.{◌≡◌, ◌≤◌, ◌++◌, length, OnOk};
 ghost use Rattle.rz_image.specs.Memory.{zeros};
-ghost use Rattle.rz_elf.specs.WrittenFile.{segment_bytes, header_bytes, header_page};
+ghost use Rattle.rz_elf.specs.WrittenFile.{header_bytes, header_page};
 
 use rz_elf::header::HEADER_SIZE;
 use rz_elf::segment::{SEGMENT_SIZE, Segment};
-use rz_num::OutOfMemory;
+use rz_num::{OutOfMemory, push_u16, push_u32, push_u64};
 
 /// The bytes of the header page.
 pub const PAGE: usize = 4096;
@@ -37,7 +36,7 @@ pub fn push_header_page(
     let count = segments.len();
     push_file_header(out, entry, count as u16)?;
     for segment in segments {
-        push_segment(out, segment)?;
+        segment.push(out)?;
     }
     push_zeros(out, PAGE - (HEADER_SIZE + SEGMENT_SIZE * count))?;
     Ok(())
@@ -64,21 +63,6 @@ fn push_file_header(out: &mut Vec<u8>, entry: u64, count: u16) -> Result<(), Out
     Ok(())
 }
 
-// Appends a program header.
-fn push_segment(out: &mut Vec<u8>, segment: &Segment) -> Result<(), OutOfMemory>
-    ensures { OnOk result (out.new.items ≡ out.old.items ++ segment_bytes segment.now) }
-{
-    push_u32(out, segment.kind)?;
-    push_u32(out, segment.flags)?;
-    push_u64(out, segment.offset)?;
-    push_u64(out, segment.vaddr)?;
-    push_u64(out, segment.paddr)?;
-    push_u64(out, segment.filesz)?;
-    push_u64(out, segment.memsz)?;
-    push_u64(out, segment.align)?;
-    Ok(())
-}
-
 /// Appends zeros, at most a page of them.
 pub fn push_zeros(out: &mut Vec<u8>, count: usize) -> Result<(), OutOfMemory>
     requires { count ≤ 4096 }
@@ -86,26 +70,5 @@ pub fn push_zeros(out: &mut Vec<u8>, count: usize) -> Result<(), OutOfMemory>
 {
     let len = out.len();
     out.resize(len + count, 0)?;
-    Ok(())
-}
-
-fn push_u16(out: &mut Vec<u8>, value: u16) -> Result<(), OutOfMemory>
-    ensures { OnOk result (out.new.items ≡ out.old.items ++ little_bytes 2 value) }
-{
-    out.extend_from_slice(&value.to_le_bytes())?;
-    Ok(())
-}
-
-fn push_u32(out: &mut Vec<u8>, value: u32) -> Result<(), OutOfMemory>
-    ensures { OnOk result (out.new.items ≡ out.old.items ++ little_bytes 4 value) }
-{
-    out.extend_from_slice(&value.to_le_bytes())?;
-    Ok(())
-}
-
-fn push_u64(out: &mut Vec<u8>, value: u64) -> Result<(), OutOfMemory>
-    ensures { OnOk result (out.new.items ≡ out.old.items ++ little_bytes 8 value) }
-{
-    out.extend_from_slice(&value.to_le_bytes())?;
     Ok(())
 }

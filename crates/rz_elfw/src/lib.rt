@@ -6,6 +6,4 @@ pub mod extent;
 mod header_page;
 pub mod parts;
 mod segments;
-#[cfg(test)]
-mod tests;
 pub mod write;

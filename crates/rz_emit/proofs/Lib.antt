@@ -3,4 +3,3 @@ pub mod Offsets
 pub mod Addresses
 pub mod Bytes
 pub mod Chosen
-pub mod Worked

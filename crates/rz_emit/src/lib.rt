@@ -2,11 +2,7 @@
 #![tactic(auto)]
 
 mod emitter;
-#[cfg(test)]
-mod example;
 mod length;
 mod lookup;
-#[cfg(test)]
-mod tests;
 
 pub use emitter::emit;

@@ -3,10 +3,10 @@ use Rattle.std.specs.Prelude.{nat_lt}
 use Rattle.rz_isa.specs.declared.rows.Row.{Row}
 use Rattle.rz_num.specs.Bytes.{are_bytes}
 use Rattle.rz_isa.specs.Spells.{RowSpells}
-use Rattle.rz_isa.proofs.Choice.{canonical_spells}
-use Rattle.rz_isa.proofs.Tests.{and_parts, and_both}
-use Rattle.rz_decode.proofs.Verdicts.{Laws}
-use Rattle.rz_decode.proofs.Exactness.{complete_law}
+use Rattle.rz_isa.specs.Laws.Choice.{canonical_spells}
+use Rattle.rz_isa.specs.Laws.Tests.{and_parts, and_both}
+use Rattle.rz_decode.specs.Laws.Verdicts.{Laws}
+use Rattle.rz_decode.specs.Laws.Exactness.{complete_law}
 use Rattle.rz_encode.specs.Laws.{DecodesBack}
 
 bytes_append : (xs ys : List ℕ) → are_bytes xs ≡ true → are_bytes ys ≡ true → are_bytes (xs ++ ys) ≡ true

@@ -1,4 +1,4 @@
-use Rattle.std.proofs.Common.{ℕ, ◌≡◌, ◌+◌, refl, ap, sym, ◌∙◌, List, length, Bool, true, false, Option, Some, None}
+use Rattle.std.proofs.Common.{ℕ, ◌≡◌, ◌+◌, refl, ap, sym, ◌∙◌, List, length, Bool, true, false, Some, None}
 use Rattle.std.specs.Prelude.{if◌then◌else◌, is_some, ◌%◌, ◌^◌}
 use Rattle.rz_isa.specs.declared.rows.Form.{Form}
 use Rattle.rz_isa.specs.declared.rows.Row.{Row}
@@ -7,9 +7,9 @@ use Rattle.rz_isa.specs.declared.spelled.Fields.{Fields}
 use Rattle.rz_isa.specs.Finding.{found}
 use Rattle.rz_isa.specs.Regular.{is_regular}
 use Rattle.rz_isa.specs.Spelling.{bytes_of}
-use Rattle.rz_isa.specs.Canonical.{Chosen, same_form, chosen, canonical, spelled_at, reaches, parts_for}
-use Rattle.rz_isa.proofs.Inverse.{found_builds}
-use Rattle.rz_isa.proofs.Tests.{passed, through}
+use Rattle.rz_isa.specs.Canonical.{same_form, chosen, canonical, spelled_at, reaches, parts_for}
+use Rattle.rz_isa.specs.Laws.Inverse.{found_builds}
+use Rattle.rz_isa.specs.Laws.Tests.{passed, through}
 use Rattle.rz_encode.specs.declared.choose.Choice.{Choice}
 use Rattle.rz_encode.specs.Calls.Choose.{served, IsGood}
 use Rattle.rz_encode.specs.Calls.Length.{spelled_count}

@@ -15,10 +15,10 @@ use Rattle.rz_isa.specs.Spelling.{bytes_of, rex_bytes, escape, imm_len}
 use Rattle.rz_isa.specs.Regular.{is_regular, digit_small}
 use Rattle.rz_isa.specs.Having.{can_have, is_half, code_of, opcode_of, needs_rex, rex_needed}
 use Rattle.rz_isa.specs.Canonical.{little, low_32, repeat_prefix, prefixes_for, rex_for, mode_of, disp_bytes, sib_for, plain_or_sib, memory_bytes, place_bytes, reg_bits, rm_bytes, imm_value, parts_for, reaches}
-use Rattle.rz_isa.proofs.Again.{had_of}
-use Rattle.rz_isa.proofs.Read.{little_length}
-use Rattle.rz_isa.proofs.Inverse.{regular_of}
-use Rattle.rz_isa.proofs.Whole.{opcode_read, length_of, spelled_for}
+use Rattle.rz_isa.specs.Laws.Again.{had_of}
+use Rattle.rz_isa.specs.Laws.Read.{little_length}
+use Rattle.rz_isa.specs.Laws.Inverse.{regular_of}
+use Rattle.rz_isa.specs.Laws.Whole.{opcode_read, length_of, spelled_for}
 use Rattle.rz_encode.specs.Calls.Length.{one_if, escape_count, disp_count, head_count, memory_count, place_count, rm_count, spelled_count}
 use Rattle.rz_encode.proofs.Written.{Pieces, pieces_same}
 

@@ -7,11 +7,11 @@ use Rattle.rz_isa.specs.Spelling.{bytes_of}
 use Rattle.rz_isa.specs.Finding.{found}
 use Rattle.rz_isa.specs.Regular.{is_regular}
 use Rattle.rz_isa.specs.Canonical.{Chosen, chosen, length_for, parts_for, reaches, spelled_at}
-use Rattle.rz_isa.proofs.Inverse.{found_builds}
-use Rattle.rz_isa.proofs.Exclusion.{list_all_get}
-use Rattle.rz_isa.proofs.Choice.{chosen_first, length_is}
-use Rattle.rz_isa.proofs.Elsewhere.{length_short}
-use Rattle.rz_isa.proofs.Tests.{none_some, through}
+use Rattle.rz_isa.specs.Laws.Inverse.{found_builds}
+use Rattle.rz_isa.specs.Laws.Exclusion.{list_all_get}
+use Rattle.rz_isa.specs.Laws.Choice.{chosen_first, length_is}
+use Rattle.rz_isa.specs.Laws.Elsewhere.{length_short}
+use Rattle.rz_isa.specs.Laws.Tests.{none_some, through}
 use Rattle.rz_encode.specs.Length.{chosen_len, ChosenLengths, SameLengths, CanonicalLengths}
 
 -- Lengths of canonical spellings, for every table.

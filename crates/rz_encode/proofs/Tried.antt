@@ -17,8 +17,8 @@ use Rattle.rz_isa.specs.Fields.{build_op}
 use Rattle.rz_isa.specs.Finding.{found}
 use Rattle.rz_isa.specs.Regular.{is_regular}
 use Rattle.rz_isa.specs.Canonical.{Chosen, same_form, or_chosen, chosen}
-use Rattle.rz_isa.proofs.Inverse.{found_builds}
-use Rattle.rz_isa.proofs.Tests.{and_parts, some_same}
+use Rattle.rz_isa.specs.Laws.Inverse.{found_builds}
+use Rattle.rz_isa.specs.Laws.Tests.{and_parts, some_same}
 use Rattle.rz_encode.specs.Calls.Choose.{served}
 
 -- Only the rows of the instruction's class can be chosen, so these are tried.

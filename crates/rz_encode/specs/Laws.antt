@@ -1,3 +1,4 @@
+-- What canonical spellings are decoded as.
 use Rattle.std.specs.Prelude.{ℕ, ◌≡◌, List, ◌++◌, length, Some, IsTrue}
 use Rattle.rz_isa.specs.declared.decoding.Decoded.TheVariants as decodeds
 use Rattle.rz_isa.specs.declared.rows.Row.{Row}

@@ -10,6 +10,3 @@ mod spelling;
 mod writer;
 
 pub use encoder::{encode, form_len, spells};
-
-#[cfg(test)]
-mod tests;

@@ -1,4 +1,4 @@
-ghost use Rattle.std.specs.Prelude.{◌≡◌, ◌≤◌, ◌<◌, ◌+◌, ◌∷◌, [], if◌then◌else◌, ◌==◌, length, IsTrue};
+ghost use Rattle.std.specs.Prelude.{◌≡◌, ◌≤◌, ◌<◌, ◌+◌, [], ◌==◌, length, IsTrue};
 ghost use Rattle.rz_isa.specs.Spelling.{rex_bytes, escape as escape_of, bytes_of};
 ghost use Rattle.rz_isa.specs.Having.{can_have, is_half as is_half_width};
 ghost use Rattle.rz_isa.specs.Regular.{is_regular, digit_small};

@@ -1,4 +1,4 @@
-ghost use Rattle.std.specs.Prelude.{◌≡◌, ◌≤◌, ◌<◌, ◌+◌, ◌∷◌, [], length};
+ghost use Rattle.std.specs.Prelude.{◌≤◌, ◌<◌, ◌+◌, ◌∷◌, [], length};
 ghost use Rattle.rz_isa.specs.Spelling.{rex_bytes};
 ghost use Rattle.rz_isa.specs.Canonical.{little};
 ghost use Rattle.rz_encode.specs.Calls.Writer.{Wrote};

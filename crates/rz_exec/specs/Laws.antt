@@ -1,3 +1,4 @@
+-- Lemmas that other crates cite.
 pub mod OneForm
 pub mod FormStands
 pub mod Registers

@@ -1,6 +1,6 @@
 //! Arithmetic and logic with two operands and with one.
 
-ghost use Rattle.std.specs.Prelude.{◌≡◌, IsTrue, not};
+ghost use Rattle.std.specs.Prelude.{◌≡◌, IsTrue};
 ghost use Rattle.rz_exec.specs.Arithmetic.{is_written as is_written_by, binary_effect, unary_effect};
 ghost use Rattle.rz_exec.specs.Effect.{is_named_place, is_named_operand};
 ghost use Rattle.rz_exec.specs.Calls.Carried.{ended, carried};

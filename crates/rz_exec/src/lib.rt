@@ -17,8 +17,6 @@ mod shifts;
 mod stack;
 mod state;
 mod strings;
-#[cfg(test)]
-mod tests;
 
 pub use exec::exec_plain;
 pub use state::{Cpu, Fault};

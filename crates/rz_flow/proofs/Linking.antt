@@ -9,9 +9,9 @@ use Rattle.rz_links.specs.declared.arena.Family.{Family}
 use Rattle.rz_links.specs.declared.arena.Family.TheVariants.{Out, In}
 use Rattle.rz_links.specs.Arena.{Arena, lists_of, with_empty_lists, with_node_at_back}
 use Rattle.rz_links.specs.Lists.{IsNext, list_at, with_back}
-use Rattle.rz_links.proofs.Paths.{list_at-more}
+use Rattle.rz_links.specs.Laws.Paths.{list_at-more}
 use Rattle.rz_aset.specs.Sets.{has, has_edge, with_address, with_edge}
-use Rattle.rz_aset.proofs.Members.{has_at, same_place, with_address-keeps}
+use Rattle.rz_aset.specs.Laws.Places.{has_at, same_place, with_address-keeps}
 use Rattle.rz_flow.specs.Flow.{near, far, neighbours}
 use Rattle.rz_flow.specs.Calls.Linked.{places, edges_at, HasLists, IsLinked}
 use Rattle.rz_flow.proofs.Places.{places-push}

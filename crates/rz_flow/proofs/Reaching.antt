@@ -4,7 +4,7 @@ use Rattle.std.proofs.lemmas.Bool.{cases_lt}
 use Rattle.std.proofs.lemmas.Option.{same_Some, slice_get-get_or, slice_get_within}
 use Rattle.rz_links.specs.declared.arena.Family.{Family}
 use Rattle.rz_aset.specs.Sets.{has, with_addresses}
-use Rattle.rz_aset.proofs.Members.{All_at, has_at, place_of, has-with_addresses, with_addresses-at, with_addresses-keeps, with_addresses-only}
+use Rattle.rz_aset.specs.Laws.Places.{All_at, has_at, place_of, has-with_addresses, with_addresses-at, with_addresses-keeps, with_addresses-only}
 use Rattle.rz_flow.specs.Flow.{Flow, neighbours}
 use Rattle.rz_flow.specs.Calls.Linked.{IsReached}
 use Rattle.rz_flow.proofs.Walks.{all_reached, reached_more, reached_start}

@@ -1,6 +1,5 @@
 -- Walks, one edge longer and from end to end.
-use Rattle.std.proofs.Common.{◌≡◌, ℕ, zero, suc, Bool, true, false, ◌&&◌, List, [], ◌∷◌, inl, inr, refl, sym, ◌∙◌, subst, nat_eq, eq-eqb, ne_eqb}
-use Rattle.std.proofs.lemmas.Bool.{cases_eq}
+use Rattle.std.proofs.Common.{◌≡◌, ℕ, zero, suc, true, List, refl, sym, ◌∙◌, subst}
 use Rattle.rz_links.specs.declared.arena.Family.{Family}
 use Rattle.rz_links.specs.declared.arena.Family.TheVariants.{Out, In}
 use Rattle.rz_aset.specs.Sets.{has, has_edge}

@@ -4,6 +4,3 @@
 mod flow;
 
 pub use flow::Flow;
-
-#[cfg(test)]
-mod tests;

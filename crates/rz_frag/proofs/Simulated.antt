@@ -1,14 +1,12 @@
 -- The items of a fragment, wherever they stand, do what the instruction does.
-use Rattle.std.proofs.Common.{◌≡◌, ℕ, suc, ◌+◌, ◌^◌, ◌<◌, ◌≤◌, ◌⊎◌, ⊎_elim, Bool, true, false, if◌then◌else◌, List, [], ◌∷◌, Some, None, IsSomeAnd, refl, sym, ap, ◌∙◌, subst, arith}
+use Rattle.std.proofs.Common.{◌≡◌, ℕ, suc, ◌+◌, ◌^◌, ◌<◌, ◌≤◌, ◌⊎◌, ⊎_elim, Bool, true, false, if◌then◌else◌, List, [], ◌∷◌, Some, IsSomeAnd, refl, sym, ap, ◌∙◌, subst, arith}
 use Rattle.std.specs.Option.{option_map}
 use Rattle.rz_flags.specs.declared.Cond.{Cond}
 use Rattle.rz_isa.specs.declared.instruction.Insn.{Insn}
 use Rattle.rz_isa.specs.declared.instruction.Insn.TheVariants as insn
-use Rattle.rz_isa.specs.declared.item_list.Label.{Label}
 use Rattle.rz_isa.specs.declared.item_list.Label.TheVariants as label
 use Rattle.rz_isa.specs.declared.item_list.Item.{Item}
 use Rattle.rz_isa.specs.declared.item_list.Item.TheVariants as item
-use Rattle.rz_isa.specs.Insn.{kind_of}
 use Rattle.rz_isa.specs.Items.{Addresses}
 use Rattle.rz_isa.specs.Nodes.{Decoder, is_site}
 use Rattle.rz_image.specs.Memory.{Regions, IsInside, wrap}
@@ -21,9 +19,9 @@ use Rattle.rz_machine.specs.Way.{way_of}
 use Rattle.rz_machine.specs.Added.{Layout}
 use Rattle.rz_machine.specs.State.{step}
 use Rattle.rz_machine.specs.Touches.{StepClear, WayClear}
-use Rattle.rz_machine.specs.Simulates.{InsnAt, ItemAt, ItemsFrom, LeadsTo, Stand, Follows, Simulates, label_at, leads}
-use Rattle.rz_machine.proofs.WayLaws.{kind_in, kind_by_way}
-use Rattle.rz_frag.specs.Fragment.{to_label, jump_to, mov_number, push_number, items_by, fragment_items, FragmentsSimulate}
+use Rattle.rz_machine.specs.Simulates.{InsnAt, ItemAt, ItemsFrom, Stand, Follows, Simulates, label_at, leads}
+use Rattle.rz_machine.specs.Laws.Ways.{kind_in, kind_by_way}
+use Rattle.rz_frag.specs.Fragment.{to_label, jump_to, mov_number, push_number, items_by, FragmentsSimulate}
 use Rattle.rz_frag.proofs.Follows.{Onto, Falls, ByJump, plain_follows, jump_follows, branch_follows, count_follows, halt_follows, syscall_follows, push_follows, insn_clear}
 
 module _ (dec : Decoder) (keeps : ℕ → Bool) (lay : Layout) (place own : ℕ → ℕ) (wm : Regions) (a : ℕ) where

@@ -1,63 +1,34 @@
 -- What the items of a fragment take: each has a spelling wherever they end below 2^31.
-use Rattle.std.proofs.Common.{◌≡◌, ℕ, ◌+◌, ◌-◌, ◌%◌, ◌^◌, ◌<◌, ◌≤◌, Bool, true, false, if◌then◌else◌, List, [], ◌∷◌, length, Option, Some, None, IsTrue, IsSome, IsSomeAnd, refl, sym, ap, ◌∙◌, subst, arith}
-use Rattle.std.specs.List.{AllByRecursion}
-use Rattle.std.specs.Option.{option_map}
-use Rattle.std.proofs.lemmas.Bool.Decides.{nat_tests}
+use Rattle.std.proofs.Common.{◌≡◌, ℕ, ◌+◌, ◌^◌, ◌<◌, ◌≤◌, Bool, true, false, if◌then◌else◌, List, [], ◌∷◌, length, Option, Some, None, IsSome, IsSomeAnd, refl, sym, ap, ◌∙◌, subst, arith}
 use Rattle.rz_num.specs.declared.width.Width.TheVariants.{W64}
 use Rattle.rz_flags.specs.declared.Cond.{Cond}
 use Rattle.rz_isa.specs.declared.rows.Row.{Row}
 use Rattle.rz_isa.specs.declared.rows.Form.TheVariants.{Near}
 use Rattle.rz_isa.specs.declared.instruction.Insn.{Insn}
 use Rattle.rz_isa.specs.declared.instruction.Insn.TheVariants as insn
-use Rattle.rz_isa.specs.declared.item_list.Label.{Label}
 use Rattle.rz_isa.specs.declared.item_list.Label.TheVariants as label
 use Rattle.rz_isa.specs.declared.item_list.Item.{Item}
 use Rattle.rz_isa.specs.declared.item_list.Item.TheVariants as item
-use Rattle.rz_isa.specs.Canonical.{Chosen, chosen, canonical, offset, spelled_at}
-use Rattle.rz_isa.specs.Emitted.{HasSpelling, Emits, near, close, fits_8, fits_32}
-use Rattle.rz_isa.specs.Having.{is_extended}
-use Rattle.rz_isa.specs.Insn.{kind_of, target_of}
-use Rattle.rz_isa.specs.Items.{Addresses, resolved}
+use Rattle.rz_isa.specs.Canonical.{Chosen, chosen, canonical, spelled_at}
+use Rattle.rz_isa.specs.Emitted.{HasSpelling, Emits, fits_8}
+use Rattle.rz_isa.specs.Insn.{target_of}
+use Rattle.rz_isa.specs.Items.{Addresses}
 use Rattle.rz_isa.specs.Nodes.{is_site}
-use Rattle.rz_isa.specs.Plan.{jump_len, near_len as jump_near_len, item_len, spelled_len, is_inner, IsPlaced, Reaches}
-use Rattle.rz_isa.specs.Sizes.{CanMove, OfLabel, IsLow, IsOneOf, IsSized, AllPlaced, near_len, near_address}
+use Rattle.rz_isa.specs.Plan.{item_len, spelled_len, is_inner, IsPlaced}
+use Rattle.rz_isa.specs.Sizes.{CanMove, IsLow, IsOneOf, IsSized, near_address}
 use Rattle.rz_isa.specs.Spells.{Spells}
 use Rattle.rz_isa.specs.Targets.{NamesLow, SpelledElsewhere}
 use Rattle.rz_isa.specs.Within.{SpelledWithin}
+use Rattle.rz_isa.specs.Laws.NearItems.{low_fits, near_jump, whole_item, jump_item, branch_item, count_item}
 use Rattle.rz_encode.specs.Length.{chosen_len, ChosenLengths, SameLengths}
-use Rattle.rz_machine.specs.declared.way.Transfer.{Transfer}
 use Rattle.rz_machine.specs.declared.way.Transfer.TheVariants as transfer
 use Rattle.rz_machine.specs.declared.way.Way.{Way}
 use Rattle.rz_machine.specs.declared.way.Way.TheVariants.{Onward, Jumps, Branches, BranchesOnRcx, Transfers, Calls, Halts}
 use Rattle.rz_machine.specs.Way.{way_of}
-use Rattle.rz_machine.proofs.WayLaws.{kind_in, kind_by_way, target_in, target_by_way}
-use Rattle.rz_frag.specs.Fragment.{to_label, jump_to, mov_number, push_number, items_by, fragment_items, FragmentsAreSized}
-
--- ---- reach between low addresses
-
-extended_low : (n t : ℕ) → n < 2 ^ 32 → t < 2 ^ 31 → n ≤ 2 ^ 31 → is_extended (2 ^ 31) (2 ^ 64) ((t + (2 ^ 64 - n)) % 2 ^ 64) ≡ true
-extended_low n t h k l = grind (arith, nat_tests)
-
-near_low : (at len t : ℕ) → at + len ≤ 2 ^ 31 → t < 2 ^ 31 → IsTrue (near at len t)
-near_low at len t h k =
-    let e : (at + len) % 2 ^ 64 ≡ at + len = omega arith in
-    ap (λ n. is_extended (2 ^ 31) (2 ^ 64) (offset n t)) e ∙ extended_low (at + len) t (omega arith) k h
-
--- over five bytes
-close_over : (at : ℕ) → at < 2 ^ 31 → IsTrue (close at 2 (at + 7))
-close_over at h =
-    let e : (at + 2) % 2 ^ 64 ≡ at + 2 = omega arith in
-    let f : (at + 7 + (2 ^ 64 - (at + 2))) % 2 ^ 64 ≡ 5 = omega arith in
-    ap (λ n. is_extended (2 ^ 7) (2 ^ 64) (offset n (at + 7))) e ∙ ap (is_extended (2 ^ 7) (2 ^ 64)) f
-
-low_fits : (n : ℕ) → n < 2 ^ 31 → IsTrue (fits_32 W64 n)
-low_fits n h = grind (arith, nat_tests)
+use Rattle.rz_machine.specs.Laws.Ways.{kind_in, kind_by_way, target_in, target_by_way}
+use Rattle.rz_frag.specs.Fragment.{to_label, jump_to, mov_number, push_number, items_by, FragmentsAreSized}
 
 -- ---- lengths
-
-near_jump : (c : Option Cond) (inner : Bool) → jump_len c inner Near ≡ jump_near_len c
-near_jump c true = refl
-near_jump c false = refl
 
 same_len : (o : Option Chosen) → chosen_len o ≡ spelled_len o
 same_len None = refl
@@ -87,10 +58,6 @@ module _ (rows : List Row) (emits : Emits rows) (within : SpelledWithin rows) (e
   known_item : (x : Insn) (at : Addresses) (from n : ℕ) → HasSpelling rows x from Near n → IsPlaced rows at from (item.Whole x) Near
   known_item x at from n h = record { reach = tt; spelled = subst (HasSpelling rows x from Near) (sym (known_len x from n h)) h }
 
-  -- an instruction as it is
-  whole_item : (x : Insn) (at : Addresses) (from : ℕ) → IsSome (chosen rows Near x) → target_of x ≡ None → NamesLow x → from + spelled_len (chosen rows Near x) < 2 ^ 31 → IsPlaced rows at from (item.Whole x) Near
-  whole_item x at from some none low fits = record { reach = tt; spelled = within x from some none low fits }
-
   -- a number pushed
   push_len : (n : ℕ) → n < 2 ^ 31 → (k : ℕ) × (k ≤ 5) × ((at : ℕ) → HasSpelling rows (push_number n) at Near k)
   push_len n low = go (fits_8 W64 n) refl
@@ -101,30 +68,6 @@ module _ (rows : List Row) (emits : Emits rows) (within : SpelledWithin rows) (e
 
   mov_spelled : (n at : ℕ) → n < 2 ^ 31 → HasSpelling rows (mov_number 1 n) at Near 5
   mov_spelled n at low = emits.mov 1 n at (omega arith) (omega (arith, low))
-
-  -- a jump to a label that names a low address
-  jump_item : (at : Addresses) (from : ℕ) (to : Label) → IsSomeAnd (at to) (λ p. p < 2 ^ 31) → from + 5 ≤ 2 ^ 31 → IsPlaced rows at from (item.Jump None to) Near
-  jump_item at from to low fits = record { reach = tt; spelled = go (at to) low }
-    where
-      go : (o : Option ℕ) → IsSomeAnd o (λ p. p < 2 ^ 31) → IsSomeAnd (option_map (λ t. insn.Jmp t) o) (λ x. HasSpelling rows x from Near (jump_len None (is_inner to) Near))
-      go None h = absurd h
-      go (Some t) h = subst (HasSpelling rows (insn.Jmp t) from Near) (sym (near_jump None (is_inner to))) (emits.jmp t from (omega (arith, h)) (near_low from 5 t fits h))
-
-  branch_item : (at : Addresses) (from : ℕ) (c : Cond) (to : Label) → IsSomeAnd (at to) (λ p. p < 2 ^ 31) → from + 6 ≤ 2 ^ 31 → IsPlaced rows at from (item.Jump (Some c) to) Near
-  branch_item at from c to low fits = record { reach = tt; spelled = go (at to) low }
-    where
-      go : (o : Option ℕ) → IsSomeAnd o (λ p. p < 2 ^ 31) → IsSomeAnd (option_map (λ t. insn.Jcc c t) o) (λ x. HasSpelling rows x from Near (jump_len (Some c) (is_inner to) Near))
-      go None h = absurd h
-      go (Some t) h = subst (HasSpelling rows (insn.Jcc c t) from Near) (sym (near_jump (Some c) (is_inner to))) (emits.jcc c t from (omega (arith, h)) (near_low from 6 t fits h))
-
-  -- over a near jump
-  count_item : (at : Addresses) (from : ℕ) (to : Label) → at to ≡ Some (from + 7) → from < 2 ^ 31 → IsPlaced rows at from (item.Jrcxz to) Near
-  count_item at from to e fits =
-      let there : Reaches (from + 2) (from + 7) = record { forward = omega arith; backward = omega arith } in
-      record {
-        reach = subst (λ o. IsSomeAnd o (Reaches (from + 2))) (sym e) there;
-        spelled = subst (λ o. IsSomeAnd (option_map (λ t. insn.Jrcxz t) o) (λ x. HasSpelling rows x from Near 2)) (sym e) (emits.jrcxz (from + 7) from (omega (arith, fits)) (close_over from fits));
-      }
 
   module _ (keeps : ℕ → Bool) (a n : ℕ) (x : Insn) (low : n < 2 ^ 31) (names : NamesLow x) (spelled : (bytes : List ℕ) × (b : ℕ) × Spells rows bytes b x) where
     -- labels of edges
@@ -178,8 +121,8 @@ module _ (rows : List Row) (emits : Emits rows) (within : SpelledWithin rows) (e
           own = (tt, (edge_own 2 b, tt));
           few = omega (arith, l, h);
           placed = λ at from all fits. (
-            whole_item x _ from (is_chosen none) none names (omega (arith, fits)),
-            (jump_item _ _ (to_label keeps a b) (edge_low (item.Whole x ∷ jump_to keeps a b ∷ []) from at b all.1.0) (omega (arith, fits, l)), tt),
+            whole_item rows within x _ from (is_chosen none) none names (omega (arith, fits)),
+            (jump_item rows emits _ _ (to_label keeps a b) (edge_low (item.Whole x ∷ jump_to keeps a b ∷ []) from at b all.1.0) (omega (arith, fits, l)), tt),
           );
         }
 
@@ -191,7 +134,7 @@ module _ (rows : List Row) (emits : Emits rows) (within : SpelledWithin rows) (e
           can_move = (edge_code b, tt);
           own = (edge_own 1 b, tt);
           few = omega (arith, l);
-          placed = λ at from all fits. (jump_item _ from (to_label keeps a b) (edge_low (jump_to keeps a b ∷ []) from at b all.0) (omega (arith, fits, l)), tt);
+          placed = λ at from all fits. (jump_item rows emits _ from (to_label keeps a b) (edge_low (jump_to keeps a b ∷ []) from at b all.0) (omega (arith, fits, l)), tt);
         }
     by_way (Branches c b) is site =
         let l = edge_len n in
@@ -201,8 +144,8 @@ module _ (rows : List Row) (emits : Emits rows) (within : SpelledWithin rows) (e
           own = (edge_own 2 b, (edge_own 2 n, tt));
           few = omega (arith, l, k);
           placed = λ at from all fits. (
-            branch_item _ from c (to_label keeps a b) (edge_low (item.Jump (Some c) (to_label keeps a b) ∷ jump_to keeps a n ∷ []) from at b all.0) (omega (arith, fits, k)),
-            (jump_item _ _ (to_label keeps a n) (edge_low (item.Jump (Some c) (to_label keeps a b) ∷ jump_to keeps a n ∷ []) from at n all.1.0) (omega (arith, fits, l)), tt),
+            branch_item rows emits _ from c (to_label keeps a b) (edge_low (item.Jump (Some c) (to_label keeps a b) ∷ jump_to keeps a n ∷ []) from at b all.0) (omega (arith, fits, k)),
+            (jump_item rows emits _ _ (to_label keeps a n) (edge_low (item.Jump (Some c) (to_label keeps a b) ∷ jump_to keeps a n ∷ []) from at n all.1.0) (omega (arith, fits, l)), tt),
           );
         }
     by_way (BranchesOnRcx b) is site =
@@ -213,10 +156,10 @@ module _ (rows : List Row) (emits : Emits rows) (within : SpelledWithin rows) (e
           own = (omega arith, (edge_own 3 n, (edge_own 3 b, tt)));
           few = omega (arith, l, k);
           placed = λ at from all fits. (
-            count_item _ from (label.Item 2) (ap Some (seven from l)) (omega (arith, fits)),
+            count_item rows emits _ from (label.Item 2) (ap Some (seven from l)) (omega (arith, fits)),
             (
-              jump_item _ _ (to_label keeps a n) (edge_low (item.Jrcxz (label.Item 2) ∷ jump_to keeps a n ∷ jump_to keeps a b ∷ []) from at n all.1.0) (omega (arith, fits, l)),
-              (jump_item _ _ (to_label keeps a b) (edge_low (item.Jrcxz (label.Item 2) ∷ jump_to keeps a n ∷ jump_to keeps a b ∷ []) from at b all.1.1.0) (omega (arith, fits, l, k)), tt),
+              jump_item rows emits _ _ (to_label keeps a n) (edge_low (item.Jrcxz (label.Item 2) ∷ jump_to keeps a n ∷ jump_to keeps a b ∷ []) from at n all.1.0) (omega (arith, fits, l)),
+              (jump_item rows emits _ _ (to_label keeps a b) (edge_low (item.Jrcxz (label.Item 2) ∷ jump_to keeps a n ∷ jump_to keeps a b ∷ []) from at b all.1.1.0) (omega (arith, fits, l, k)), tt),
             ),
           );
         }
@@ -233,7 +176,7 @@ module _ (rows : List Row) (emits : Emits rows) (within : SpelledWithin rows) (e
           few = omega (arith, l, k, p.1);
           placed = λ at from all fits. (
             known_item (push_number n) _ from p.0 (p.2 from),
-            (jump_item _ _ (to_label keeps a b) (edge_low (item.Whole (push_number n) ∷ jump_to keeps a b ∷ []) from at b all.1.0) (omega (arith, fits, l)), tt),
+            (jump_item rows emits _ _ (to_label keeps a b) (edge_low (item.Whole (push_number n) ∷ jump_to keeps a b ∷ []) from at b all.1.0) (omega (arith, fits, l)), tt),
           );
         }
     by_way (Transfers (transfer.CallInd src)) is site = absurd (cc)
@@ -249,10 +192,10 @@ module _ (rows : List Row) (emits : Emits rows) (within : SpelledWithin rows) (e
           own = (tt, (tt, (edge_own 3 n, tt)));
           few = omega (arith, l, k, h);
           placed = λ at from all fits. (
-            whole_item x _ from (is_chosen none) none names (omega (arith, fits)),
+            whole_item rows within x _ from (is_chosen none) none names (omega (arith, fits)),
             (
               known_item (mov_number 1 n) _ _ 5 (mov_spelled n _ low),
-              (jump_item _ _ (to_label keeps a n) (edge_low (item.Whole x ∷ item.Whole (mov_number 1 n) ∷ jump_to keeps a n ∷ []) from at n all.1.1.0) (omega (arith, fits, l, k)), tt),
+              (jump_item rows emits _ _ (to_label keeps a n) (edge_low (item.Whole x ∷ item.Whole (mov_number 1 n) ∷ jump_to keeps a n ∷ []) from at n all.1.1.0) (omega (arith, fits, l, k)), tt),
             ),
           );
         }
@@ -263,7 +206,7 @@ module _ (rows : List Row) (emits : Emits rows) (within : SpelledWithin rows) (e
           can_move = ((none, names), tt);
           own = (tt, tt);
           few = omega (arith, h);
-          placed = λ at from all fits. (whole_item x _ from (is_chosen none) none names (omega (arith, fits)), tt);
+          placed = λ at from all fits. (whole_item rows within x _ from (is_chosen none) none names (omega (arith, fits)), tt);
         }
 
   pub fragments_are_sized : FragmentsAreSized rows 32

@@ -1,5 +1,5 @@
 -- The items that stand for a kept instruction that is no site: which simulate it, and what they take.
-use Rattle.std.specs.Prelude.{◌≡◌, ℕ, ◌+◌, ◌^◌, ◌<◌, Bool, false, if◌then◌else◌, List, [], ◌∷◌, Some, None}
+use Rattle.std.specs.Prelude.{◌≡◌, ℕ, ◌^◌, ◌<◌, Bool, false, if◌then◌else◌, List, [], ◌∷◌, Some, None}
 use Rattle.rz_num.specs.declared.width.Width.TheVariants.{W32}
 use Rattle.rz_isa.specs.declared.rows.Row.{Row}
 use Rattle.rz_isa.specs.declared.instruction.Insn.{Insn}

@@ -3,7 +3,5 @@
 
 pub mod laws;
 mod sequence;
-#[cfg(test)]
-mod tests;
 
 pub use sequence::fragment;

@@ -3,10 +3,10 @@
 ghost use Rattle.std.specs.Prelude.{◌≡◌, ◌<◌, ◌≤◌, ◌++◌, OnOk};
 ghost use Rattle.rz_gen.specs.Code.{call, code, each_below, function, function_adding, head, table_calls, table_word};
 
-use crate::bytes::{push_filling, push_u32, push_u64};
+use crate::bytes::push_filling;
 use crate::places::{CODE_AT, function_at, head_length, head_size};
 use crate::sequence::{FIRST_NUMBER, next_number};
-use rz_num::OutOfMemory;
+use rz_num::{OutOfMemory, push_u32, push_u64};
 
 // xor ebx, ebx
 const OPENING: [u8; 2] = [0x31, 0xdb];

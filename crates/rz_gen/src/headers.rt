@@ -1,14 +1,13 @@
 // The header page of a generated file.
 
 ghost use Rattle.std.specs.Prelude.{◌≡◌, ◌++◌, OnOk};
-ghost use Rattle.rz_elf.specs.WrittenFile.{segment_bytes};
 ghost use Rattle.rz_gen.specs.Generated.{code_segment, header_bytes, header_page};
 
-use crate::bytes::{push_filling, push_u16, push_u32, push_u64};
+use crate::bytes::push_filling;
 use crate::places::CODE_AT;
 use rz_elf::header::HEADER_SIZE;
 use rz_elf::segment::{SEGMENT_SIZE, Segment};
-use rz_num::OutOfMemory;
+use rz_num::{OutOfMemory, push_u16, push_u32, push_u64};
 
 // The bytes of the header page.
 const PAGE: u64 = 4096;
@@ -34,7 +33,7 @@ pub fn push_header_page(out: &mut Vec<u8>, size: u64) -> Result<(), OutOfMemory>
     ensures { OnOk result (out.new.items ≡ out.old.items ++ header_page size) }
 {
     push_file_header(out)?;
-    push_segment(out, &code_segment(size))?;
+    code_segment(size).push(out)?;
     push_filling(out, 0, PAGE as usize - (HEADER_SIZE + SEGMENT_SIZE))?;
     Ok(())
 }
@@ -74,19 +73,4 @@ fn code_segment(size: u64) -> Segment
         memsz: size,
         align: PAGE,
     }
-}
-
-// Appends a program header.
-fn push_segment(out: &mut Vec<u8>, segment: &Segment) -> Result<(), OutOfMemory>
-    ensures { OnOk result (out.new.items ≡ out.old.items ++ segment_bytes segment.now) }
-{
-    push_u32(out, segment.kind)?;
-    push_u32(out, segment.flags)?;
-    push_u64(out, segment.offset)?;
-    push_u64(out, segment.vaddr)?;
-    push_u64(out, segment.paddr)?;
-    push_u64(out, segment.filesz)?;
-    push_u64(out, segment.memsz)?;
-    push_u64(out, segment.align)?;
-    Ok(())
 }

@@ -9,6 +9,3 @@ mod places;
 mod sequence;
 
 pub use file::{GEN_STEPS_LIMIT, gen_file};
-
-#[cfg(test)]
-mod tests;

@@ -1,3 +1,4 @@
+-- Lemmas that other crates cite.
 pub mod Puts
 pub mod Alike
 pub mod Cells

@@ -3,5 +3,4 @@ pub mod Memory
 pub mod Run
 pub mod Word
 pub mod Apart
-pub mod Calls
 pub mod Laws

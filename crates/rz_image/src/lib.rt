@@ -7,6 +7,4 @@ pub mod memory;
 pub mod perm;
 pub mod region;
 mod runs;
-#[cfg(test)]
-mod tests;
 mod words;

@@ -1,6 +1,6 @@
 // Words in memory, the low byte first (Intel SDM, volume 1, section 1.3.1).
 
-ghost use Rattle.std.specs.Prelude.{◌≡◌, ◌≢◌, ℕ, ◌+◌, ◌^◌, ◌<◌, ◌≤◌, true, false, List, length, take, drop, IsTrue, IfOk, IfErr, OnOk, OnErr, Option, Some, None};
+ghost use Rattle.std.specs.Prelude.{◌≡◌, ◌<◌, ◌≤◌, true, false, length, IsTrue, IfOk, IfErr, OnOk, OnErr, Option, Some, None};
 ghost use Rattle.byteorder.specs.Endian.{little_number};
 ghost use Rattle.rz_image.specs.Memory.{Ascend, cell_at, bytes_at, put_byte, put_bytes, refused as refused_at, is_readable, is_writable};
 ghost use Rattle.rz_image.specs.Run.{allows};

@@ -5,7 +5,7 @@ use Rattle.std.specs.List.{filter_map, cons_option}
 use Rattle.std.proofs.lemmas.List.Elements.{filter_map-append}
 use Rattle.std.proofs.lemmas.List.Concat.{flat_map-append}
 use Rattle.rz_text.specs.Lines.{Line, has_content, lines_from, words}
-use Rattle.rz_text.proofs.Reading.{IsRead, IsRead-start, IsRead-more}
+use Rattle.rz_text.specs.Laws.Reading.{IsRead, IsRead-start, IsRead-more}
 use Rattle.rz_sys.specs.declared.input.Input.{Input}
 use Rattle.rz_sys.specs.declared.input.Reply.{Reply as ReplyOf}
 use Rattle.rz_sys.specs.Input.{IsValid, strings}

@@ -1,16 +1,15 @@
 -- Printed lines are read as what they say.
-use Rattle.std.proofs.Common.{◌≡◌, ℕ, zero, suc, ◌/◌, ◌%◌, ◌^◌, ◌<◌, ◌==◌, true, false, List, [], ◌∷◌, ◌++◌, length, Some, refl, ap, ◌∙◌, append-nil, lit<, arith, rules}
+use Rattle.std.proofs.Common.{◌≡◌, ℕ, zero, suc, ◌/◌, ◌%◌, ◌^◌, ◌<◌, ◌==◌, true, false, List, [], ◌∷◌, ◌++◌, length, Some, refl, ap, ◌∙◌, lit<, arith, rules}
 use Rattle.std.specs.Prelude.{nat_le, codes, slice_index}
-use Rattle.std.specs.List.{All, AllByRecursion, list_any, join_with_byte}
+use Rattle.std.specs.List.{All, AllByRecursion, list_any}
 use Rattle.std.specs.Fmt.{digits}
 use Rattle.std.specs.Str.Parse.{AllDigits}
 use Rattle.std.proofs.lemmas.Fmt.{decimal_is_IsNumeral}
-use Rattle.std.proofs.lemmas.List.Elements.{All-from_recursion}
 use Rattle.hex.specs.Hex.{encode_lower, encode_with, hex_digit_value, lower_digits, IsBytes}
 use Rattle.hex.proofs.HexLemmas.{decode_of-encode_lower, IsDigits-lower_digits}
 use Rattle.rz_text.specs.Lines.{has_content, words}
-use Rattle.rz_text.proofs.LineLaws.{words-joined}
-use Rattle.rz_text.proofs.NumberLaws.{decimal-printed}
+use Rattle.rz_text.specs.Laws.Words.{IsVisible, words-joined, joined-no_end}
+use Rattle.rz_text.specs.Laws.Numbers.{decimal-printed}
 use Rattle.rz_sys.specs.Input.{IsValidReply}
 use Rattle.rz_sys.specs.declared.input.Reply.{Reply as ReplyOf}
 use Rattle.rz_sys.specs.declared.input.Reply.TheVariants.{Full, AtMost, Error}
@@ -25,10 +24,6 @@ abbrev pub IsPrintable : Entry → Type 0
 IsPrintable (Arg bytes) = AllByRecursion (λ b. (0 < b) × (b < 256)) bytes
 IsPrintable (Stdin bytes) = AllByRecursion (λ b. b < 256) bytes × (0 < length bytes)
 IsPrintable (Reply reply) = IsValidReply reply × HasWord reply
-
--- visible bytes
-abbrev IsVisible : List ℕ → Type 0
-IsVisible word = AllByRecursion (λ b. 32 < b) word
 
 digit_visible : (c d : ℕ) → hex_digit_value c ≡ Some d → 32 < c
 digit_visible c d h = grind arith
@@ -83,14 +78,6 @@ entry_visible (Reply reply) h = reply_visible reply h.1
 
 -- ---- the words of printed lines
 
-no_space : (word : List ℕ) → IsVisible word → AllByRecursion (λ b. (b == 32) ≡ false) word
-no_space [] h = tt
-no_space (b ∷ bs) h = (let above = h.0 in grind arith, no_space bs h.1)
-
-no_spaces : (ws : List (List ℕ)) → AllByRecursion IsVisible ws → AllByRecursion (λ v. All (λ b. (b == 32) ≡ false) v) ws
-no_spaces [] h = tt
-no_spaces (w ∷ ws) h = (All-from_recursion (λ b. (b == 32) ≡ false) w (no_space w h.0), no_spaces ws h.1)
-
 some_words : (e : Entry) (P : List (List ℕ) → Type 0) → ((w : List ℕ) (ws : List (List ℕ)) → entry_words e ≡ w ∷ ws → P (w ∷ ws)) → P (entry_words e)
 some_words (Arg []) P h = h _ _ refl
 some_words (Arg (b ∷ bs)) P h = h _ _ refl
@@ -99,12 +86,8 @@ some_words (Reply Full) P h = h _ _ refl
 some_words (Reply (AtMost n)) P h = h _ _ refl
 some_words (Reply (Error n)) P h = h _ _ refl
 
-joined : (ws : List (List ℕ)) → 0 < length ws → AllByRecursion (λ v. All (λ b. (b == 32) ≡ false) v) ws → words (join_with_byte 32 ws) ≡ ws
-joined [] some h = absurd (omega arith)
-joined (w ∷ ws) some h = words-joined w ws h
-
 words-entry_line : (e : Entry) → IsPrintable e → words (entry_line e) ≡ entry_words e
-words-entry_line e h = joined (entry_words e) (some_words e (λ ws. 0 < length ws) (λ w ws _. omega arith)) (no_spaces (entry_words e) (entry_visible e h))
+words-entry_line e h = words-joined (entry_words e) (some_words e (λ ws. 0 < length ws) (λ w ws _. omega arith)) (entry_visible e h)
 
 -- ---- what printed words say
 
@@ -155,18 +138,5 @@ has_content-line (Reply Full) = first_says 114 (codes "eply" ++ 32 ∷ codes "fu
 has_content-line (Reply (AtMost n)) = first_says 114 (codes "eply atmost" ++ 32 ∷ digits 10 false n) refl
 has_content-line (Reply (Error n)) = first_says 114 (codes "eply error" ++ 32 ∷ digits 10 false n) refl
 
-no_end : (bytes : List ℕ) → AllByRecursion (λ b. 31 < b) bytes → AllByRecursion (λ b. (b == 10) ≡ false) bytes
-no_end [] h = tt
-no_end (b ∷ bs) h = (let above = h.0 in grind arith, no_end bs h.1)
-
-above-append : (xs ys : List ℕ) → IsVisible xs → AllByRecursion (λ b. 31 < b) ys → AllByRecursion (λ b. 31 < b) (xs ++ ys)
-above-append [] ys h k = k
-above-append (x ∷ xs) ys h k = (let above = h.0 in omega arith, above-append xs ys h.1 k)
-
-above-joined : (ws : List (List ℕ)) → AllByRecursion IsVisible ws → AllByRecursion (λ b. 31 < b) (join_with_byte 32 ws)
-above-joined [] h = tt
-above-joined (w ∷ []) h = rw (← append-nil w) (above-append w [] h.0 tt)
-above-joined (w ∷ v ∷ ws) h = above-append w (32 ∷ join_with_byte 32 (v ∷ ws)) h.0 (lit< tt, above-joined (v ∷ ws) h.1)
-
 pub no_end-line : (e : Entry) → IsPrintable e → All (λ b. (b == 10) ≡ false) (entry_line e)
-no_end-line e h = All-from_recursion (λ b. (b == 10) ≡ false) (entry_line e) (no_end (entry_line e) (above-joined (entry_words e) (entry_visible e h)))
+no_end-line e h = joined-no_end (entry_words e) (entry_visible e h)

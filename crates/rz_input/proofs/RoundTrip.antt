@@ -8,7 +8,7 @@ use Rattle.std.proofs.lemmas.List.Concat.{flat_map-append}
 use Rattle.std.proofs.lemmas.List.Elements.{filter_map-append}
 use Rattle.rz_text.specs.Lines.{Line, content, content_of, lines}
 use Rattle.rz_text.specs.Fault.{first_fault}
-use Rattle.rz_text.proofs.LineLaws.{lines-ended}
+use Rattle.rz_text.specs.Laws.Lines.{lines-ended}
 use Rattle.rz_sys.specs.Input.{IsValid, IsValidReply, strings}
 use Rattle.rz_sys.specs.declared.input.Input.{Input}
 use Rattle.rz_sys.specs.declared.input.Reply.{Reply as ReplyOf}

@@ -10,6 +10,3 @@ mod reader;
 pub use error::InputError;
 pub use printer::print_input;
 pub use reader::read_input;
-
-#[cfg(test)]
-mod tests;

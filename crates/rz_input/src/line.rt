@@ -1,10 +1,8 @@
 // A line of an input file.
 
-ghost use Rattle.std.specs.Prelude.{◌≡◌, ◌==◌, None, Some, IfOk, MatchOption};
+ghost use Rattle.std.specs.Prelude.{◌≡◌, ◌==◌, None, Some, IfOk};
 ghost use Rattle.std.specs.List.{list_any};
-ghost use Rattle.std.specs.Option.{option_copied};
 ghost use Rattle.rz_text.specs.Lines.{words};
-ghost use Rattle.rz_text.specs.Number.{decimal as decimal_number};
 ghost use Rattle.rz_input.specs.Grammar.{argument as argument_of, bytes_of as bytes_named, entry_of as entry_said, entry_of_one as entry_of_one_word, entry_of_two as entry_of_two_words, entry_of_three as entry_of_three_words, numbered_reply as reply_numbered};
 
 use crate::entry::Entry;

@@ -1,6 +1,6 @@
 // Reading input files.
 
-ghost use Rattle.std.specs.Prelude.{◌≡◌, ◌≢◌, ◌≤◌, length, Some, None, OnOk, OnErr, IfOk, IfErr};
+ghost use Rattle.std.specs.Prelude.{◌≡◌, ◌≢◌, ◌≤◌, length, Some, None, OnOk, IfOk, IfErr};
 ghost use Rattle.rz_text.specs.Lines.{words};
 ghost use Rattle.rz_sys.specs.Input.{IsValid, strings};
 ghost use Rattle.rz_input.specs.declared.error.InputError.TheVariants as error;

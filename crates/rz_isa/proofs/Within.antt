@@ -1,7 +1,7 @@
 use Rattle.std.proofs.Common.{ℕ, ◌≡◌, ◌+◌, ◌%◌, ◌^◌, ◌<◌, refl, sym, ap, ◌∙◌, arith, List, length, Bool, true, false, Option, Some, None}
 use Rattle.std.specs.Prelude.{IsSome, IsSomeAnd, if◌then◌else◌}
 use Rattle.std.specs.List.{list_all}
-use Rattle.rz_isa.proofs.Types.{Row, Insn}
+use Rattle.rz_isa.specs.Laws.Types.{Row, Insn}
 use Rattle.rz_isa.specs.declared.rows.Form.TheVariants as forms
 use Rattle.rz_isa.specs.Spelling.{bytes_of}
 use Rattle.rz_isa.specs.Insn.{target_of}
@@ -12,12 +12,12 @@ use Rattle.rz_isa.specs.Canonical.{parts_for, place_reaches, imm_reaches, reache
 use Rattle.rz_isa.specs.Plan.{spelled_len}
 use Rattle.rz_isa.specs.Targets.{NamesLow}
 use Rattle.rz_isa.specs.Within.{SpelledWithin}
-use Rattle.rz_isa.proofs.Choice.{chosen_first, length_is}
-use Rattle.rz_isa.proofs.Elsewhere.{no_displacement, imm_near, place_near}
-use Rattle.rz_isa.proofs.Exclusion.{list_all_get}
-use Rattle.rz_isa.proofs.Inverse.{found_builds}
-use Rattle.rz_isa.proofs.Targeted.{direct_targets}
-use Rattle.rz_isa.proofs.Tests.{and_both}
+use Rattle.rz_isa.specs.Laws.Choice.{chosen_first, length_is}
+use Rattle.rz_isa.specs.Laws.Elsewhere.{no_displacement, imm_near, place_near}
+use Rattle.rz_isa.specs.Laws.Exclusion.{list_all_get}
+use Rattle.rz_isa.specs.Laws.Inverse.{found_builds}
+use Rattle.rz_isa.specs.Laws.Targeted.{direct_targets}
+use Rattle.rz_isa.specs.Laws.Tests.{and_both}
 
 -- An instruction without a direct target has a canonical spelling wherever that ends at a low address.
 

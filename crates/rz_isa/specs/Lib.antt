@@ -21,3 +21,4 @@ pub mod Items
 pub mod Plan
 pub mod Within
 pub mod Sizes
+pub mod Laws

@@ -7,5 +7,4 @@ pub mod Flat
 pub mod Spelled
 pub mod Planned
 pub mod LeastPlans
-pub mod Worked
 pub mod NearPlans

@@ -14,20 +14,13 @@ use Rattle.rz_isa.specs.Canonical.{offset, Chosen, chosen, canonical, spelled_at
 use Rattle.rz_isa.specs.Insn.{target_of}
 use Rattle.rz_isa.specs.Targets.{NamesLow}
 use Rattle.rz_isa.specs.Within.{SpelledWithin}
-use Rattle.rz_isa.specs.Emitted.{Emits, HasSpelling, near, close, fits_32}
+use Rattle.rz_isa.specs.Emitted.{Emits, HasSpelling, close, fits_32}
 use Rattle.rz_isa.specs.Items.{absolute, store}
 use Rattle.rz_isa.specs.Plan.{spelled_len, near_len, Reaches}
+use Rattle.rz_isa.specs.Laws.NearItems.{near_low}
 use Rattle.rz_encode.specs.Length.{chosen_len, SameLengths}
 
 -- ---- displacements
-
-extended_low : (n t : ℕ) → t < 2 ^ 31 → n < 2 ^ 31 → is_extended (2 ^ 31) (2 ^ 64) ((t + (2 ^ 64 - n)) % 2 ^ 64) ≡ true
-extended_low n t h l = grind (arith, nat_tests)
-
-pub near_low : (at len t : ℕ) → at + len < 2 ^ 31 → t < 2 ^ 31 → IsTrue (near at len t)
-near_low at len t h k =
-    let e : (at + len) % 2 ^ 64 ≡ at + len = omega arith in
-    ap (λ n. is_extended (2 ^ 31) (2 ^ 64) (offset n t)) e ∙ extended_low (at + len) t k h
 
 extended_forward : (n : ℕ) → n < 128 → is_extended (2 ^ 7) (2 ^ 64) n ≡ true
 extended_forward n h = grind (arith, nat_tests)
@@ -85,8 +78,8 @@ jump None t = insn.Jmp t
 jump (Some cond) t = insn.Jcc cond t
 
 pub jump_near : (rows : List Row) → Emits rows → (cond : Option Cond) (t from : ℕ) → t < 2 ^ 31 → from + near_len cond < 2 ^ 31 → HasSpelling rows (jump cond t) from Near (near_len cond)
-jump_near rows emits None t from h k = emits.jmp t from (omega arith) (near_low from 5 t k h)
-jump_near rows emits (Some cond) t from h k = emits.jcc cond t from (omega arith) (near_low from 6 t k h)
+jump_near rows emits None t from h k = emits.jmp t from (omega arith) (near_low from 5 t (omega (arith, k)) h)
+jump_near rows emits (Some cond) t from h k = emits.jcc cond t from (omega arith) (near_low from 6 t (omega (arith, k)) h)
 
 pub jump_short : (rows : List Row) → Emits rows → (cond : Option Cond) (t from : ℕ) → t < 2 ^ 31 → from + 2 < 2 ^ 31 → Reaches (from + 2) t → HasSpelling rows (jump cond t) from Short 2
 jump_short rows emits None t from h k r = emits.jmp_short t from (omega arith) (close_low from t k h r)

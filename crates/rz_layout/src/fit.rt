@@ -1,6 +1,6 @@
 //! Tests of what the forms and places of pieces require.
 
-ghost use Rattle.std.specs.Prelude.{◌+◌, ◌^◌, ◌<◌, [], length};
+ghost use Rattle.std.specs.Prelude.{◌+◌, ◌^◌, ◌<◌, []};
 ghost use Rattle.std.specs.Bool.{OnTrue};
 ghost use Rattle.rz_layout.specs.Calls.Pieces.{total_len, HaveLabels};
 

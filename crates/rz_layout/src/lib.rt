@@ -2,8 +2,6 @@
 #![tactic(auto)]
 
 #[cfg(test)]
-mod example;
-#[cfg(test)]
 mod fit;
 pub mod laws;
 pub mod layout;

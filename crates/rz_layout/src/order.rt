@@ -1,7 +1,7 @@
 //! The items of fragments in one order, and the numbers that labels name there.
 
-ghost use Rattle.std.specs.Prelude.{◌≡◌, ◌++◌, length, slice_index_or, Some, None, IfOk, OnOk, ◌+◌, nat_le, if◌then◌else◌};
-ghost use Rattle.rz_isa.specs.Items.{list_slots, first_number as first_number_of};
+ghost use Rattle.std.specs.Prelude.{◌≡◌, slice_index_or, Some, None, IfOk, OnOk, ◌+◌, nat_le, if◌then◌else◌};
+ghost use Rattle.rz_isa.specs.Items.{first_number as first_number_of};
 ghost use Rattle.rz_layout.specs.Layout.{IsAscending};
 ghost use Rattle.rz_layout.specs.Order.{appended, index_of, number_in, IsOrderOf};
 

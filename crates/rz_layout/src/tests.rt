@@ -1,12 +1,10 @@
 //! Worked layouts of pieces, with places and lengths counted by hand.
 
-use crate::example::laid_out;
 use crate::fit::{are_low, have_labels};
 use crate::piece::Piece;
 use crate::sizes::{least_forms, places_of};
 use rz_isa::Form;
 use rz_num::{OutOfMemory, Words};
-use rz_table::Profile1;
 use std::alloc::Global;
 use std::process::Abort;
 use std::test::Fail;
@@ -106,15 +104,5 @@ fn many_pieces(rt: HostRuntime) -> Result<(), Fail> {
     }
     let (_, places) = places(&rt, rt.alloc(), &mut pieces)?;
     assert_eq!(rt; places.as_slice().last().copied(), Some(0xa273f));
-    Ok(())
-}
-
-#[test]
-fn jumps_to_each_other_are_short(rt: HostRuntime) -> Result<(), Fail> {
-    let laid = laid_out::<Profile1>(rt.alloc())?;
-    assert_eq!(rt; laid.places.as_slice().first().copied(), Some(0x10000));
-    assert_eq!(rt; laid.places.as_slice().last().copied(), Some(0x10002));
-    assert_eq!(rt; laid.forms.as_slice().first().copied(), Some(1));
-    assert_eq!(rt; laid.forms.as_slice().last().copied(), Some(1));
     Ok(())
 }

@@ -1,2 +1,3 @@
--- Lemmas that ghost fields cite.
+-- Lemmas that ghost members and other crates cite.
 pub mod Chains
+pub mod Paths

@@ -1,6 +1,6 @@
 // Nodes with values, each in one list of each of two families.
 
-ghost use Rattle.std.specs.Prelude.{◌≡◌, ◌<◌, ◌≤◌, ◌+◌, ℕ, Some, IfOk, OnOk, OnErr, length, slice_get};
+ghost use Rattle.std.specs.Prelude.{◌≡◌, ◌<◌, ◌≤◌, ℕ, Some, IfOk, OnOk, OnErr, length, slice_get};
 ghost use Rattle.rz_links.specs.declared.arena.Family.{Family as AnyFamily};
 ghost use Rattle.rz_links.specs.Lists.{AreBelow, IsNext, IsPrev, StandsOnce, node_in};
 ghost use Rattle.rz_links.specs.Arena.{empty_arena, lists_of, with_empty_lists, with_node_after, with_node_at_back, with_node_moved, without_node};

@@ -6,6 +6,3 @@ mod links;
 mod lists;
 
 pub use arena::{Arena, Family};
-
-#[cfg(test)]
-mod tests;

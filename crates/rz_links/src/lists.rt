@@ -1,6 +1,6 @@
 // Lists of nodes, in which each node stands once at most.
 
-ghost use Rattle.std.specs.Prelude.{◌≡◌, ◌≢◌, ◌<◌, ◌≤◌, ◌+◌, ◌++◌, [], ℕ, Some, None, IfOk, OnOk, OnErr, length, map, replicate, slice_get};
+ghost use Rattle.std.specs.Prelude.{◌≡◌, ◌≢◌, ◌<◌, ◌≤◌, ◌+◌, ◌++◌, [], ℕ, OnOk, length, map, replicate};
 ghost use Rattle.rz_links.specs.Lists.{AreBelow, IsNext, IsPrev, StandsOnce, after, node_in, with_back, without};
 ghost use Rattle.rz_links.specs.Calls.Chains.{Chains};
 ghost use Rattle.rz_links.specs.Laws.Chains.{Chains-prop};

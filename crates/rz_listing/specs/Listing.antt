@@ -5,7 +5,7 @@ use Rattle.rz_elf.specs.Elf.{image_of}
 use Rattle.rz_isa.specs.declared.decoding.Decoded.{Decoded}
 use Rattle.rz_isa.specs.declared.decoding.Decoded.TheVariants as decodeds
 use Rattle.rz_isa.specs.Nodes.{Decoder, Code, spelled_at}
-use Rattle.rz_disasm.specs.Operands.{hexadecimal}
+use Rattle.rz_num.specs.Texts.{hex_text}
 use Rattle.rz_disasm.specs.Line.{line_text}
 
 -- the executable bytes that a file loads from an address on, as many of the first 15 as there are
@@ -15,8 +15,8 @@ file_code file a = fetch (image_of file).loads a 15
 -- the line of an address: that of the instruction there, or why there is none
 abbrev pub line_of : Decoded → List ℕ → ℕ → List ℕ
 line_of (decodeds.Insn x len) bytes at = line_text at (take len bytes) x ++ codes "\n"
-line_of decodeds.Short bytes at = hexadecimal at ++ codes " short\n"
-line_of decodeds.Unknown bytes at = hexadecimal at ++ codes " unknown\n"
+line_of decodeds.Short bytes at = hex_text at ++ codes " short\n"
+line_of decodeds.Unknown bytes at = hex_text at ++ codes " unknown\n"
 
 -- the address behind an instruction
 abbrev pub next_of : Decoded → ℕ → Option ℕ

@@ -4,6 +4,3 @@
 mod lines;
 
 pub use lines::listing;
-
-#[cfg(test)]
-mod tests;

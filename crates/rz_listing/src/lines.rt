@@ -1,6 +1,6 @@
 // The lines of a listing.
 
-ghost use Rattle.std.specs.Prelude.{◌≡◌, ◌≤◌, ◌++◌, length, IfOk, OnOk};
+ghost use Rattle.std.specs.Prelude.{◌≡◌, ◌++◌, length, IfOk, OnOk};
 ghost use Rattle.rz_isa.specs.Decoded.{decoded};
 ghost use Rattle.rz_isa.specs.Nodes.{spelled_at};
 ghost use Rattle.rz_listing.specs.Listing.{file_code, line_of, next_of, listing as listing_text};

@@ -1,11 +1,11 @@
 -- A cache of decoded instructions serves a run: its entries stand for each memory of it.
-use Rattle.std.proofs.Common.{◌≡◌, ℕ, ◌<◌, ⊎_elim, Bool, true, false, ◌&&◌, not, List, [], ◌∷◌, length, get_or, All, Option, Some, None, is_some, Result, Ok, Err, OnOk, OnErr, refl, sym, ap, ◌∙◌, subst, arith}
+use Rattle.std.proofs.Common.{◌≡◌, ℕ, ⊎_elim, Bool, true, false, ◌&&◌, not, List, [], ◌∷◌, length, get_or, All, Option, Some, None, is_some, Result, Ok, Err, OnOk, OnErr, refl, sym, ap, ◌∙◌, subst, arith}
 use Rattle.std.specs.List.{AllByRecursion, AllClonesOf, list_all}
 use Rattle.std.proofs.lemmas.List.Elements.{All-from_recursion}
 use Rattle.rz_image.specs.Perm.{writes, executes}
 use Rattle.rz_image.specs.Apart.{is_apart, are_apart}
 use Rattle.rz_image.specs.Memory.{Regions, SameCode, NoSelfWritten}
-use Rattle.rz_isa.specs.Nodes.{Decoder, spelled_at}
+use Rattle.rz_isa.specs.Nodes.{Decoder}
 use Rattle.rz_sys.specs.Heap.{HasHeap}
 use Rattle.rz_machine.specs.declared.cache.Entry.{Entry}
 use Rattle.rz_machine.specs.declared.cache.DecodeCache.{DecodeCache}
@@ -17,11 +17,9 @@ use Rattle.rz_isa.specs.declared.decoding.Decoded.TheVariants as decodeds
 use Rattle.rz_isa.specs.declared.rows.Row.{Row}
 use Rattle.rz_isa.specs.Decoded.{decoded}
 use Rattle.rz_exec.specs.Laws.Named.{decoded_named}
-use Rattle.rz_machine.specs.Nodes.{code_in}
-use Rattle.rz_machine.specs.Simulates.{HasCode}
 use Rattle.rz_machine.specs.Calls.Cache.{HasNames, IsEntry, Serves}
-use Rattle.rz_machine.proofs.CodeLaws.{fetch_same, step_code}
-use Rattle.rz_machine.proofs.StartCode.{NoneSelfWritten, NoSelfWritten-from_regions}
+use Rattle.rz_machine.specs.Laws.Code.{fetch_same, step_code}
+use Rattle.rz_machine.specs.Laws.StartCode.{NoneSelfWritten, NoSelfWritten-from_regions}
 
 -- regions that are apart
 regions_apart : (m : Regions) → are_apart m ≡ true → NoneSelfWritten m

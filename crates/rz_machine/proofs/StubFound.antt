@@ -21,7 +21,7 @@ use Rattle.rz_elf.specs.Laws.Stamp.{written_stamped}
 use Rattle.rz_machine.specs.Added.{added, index_of}
 use Rattle.rz_machine.specs.Kept.{has_node, sorted}
 use Rattle.rz_machine.specs.Stub.{word_in, stub_in, stub_at, StubsNameNodes}
-use Rattle.rz_machine.proofs.SetLaws.{has_node-sorted}
+use Rattle.rz_machine.specs.Laws.Sets.{has_node-sorted}
 
 -- a list from the stub of an address on
 record StubFrom (stubs : List ℕ) (place a : ℕ) : Type 0 where

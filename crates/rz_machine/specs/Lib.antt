@@ -19,3 +19,4 @@ pub mod Ran
 pub mod Recorded
 pub mod Stub
 pub mod Calls
+pub mod Laws

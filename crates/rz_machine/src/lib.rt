@@ -2,8 +2,6 @@
 #![tactic(auto)]
 
 pub mod cache;
-#[cfg(test)]
-mod call_tests;
 pub mod law;
 pub mod machine;
 pub mod start;

@@ -4,4 +4,5 @@ pub mod Fields
 pub mod Page
 pub mod Products
 pub mod Signs
+pub mod Texts
 pub mod Width

@@ -1,8 +1,9 @@
 // Little-endian fields, as ELF files for x86-64 and the machine's memory have them.
 
-ghost use Rattle.std.specs.Prelude.{◌≡◌, ◌≤◌, ◌+◌, ◌++◌, length, take, drop};
+ghost use Rattle.std.specs.Prelude.{◌≡◌, ◌≤◌, ◌+◌, ◌++◌, length, take, drop, OnOk};
 ghost use Rattle.byteorder.specs.Endian.{little_number, little_bytes};
 
+use crate::want::OutOfMemory;
 use byteorder::{ByteOrder, LittleEndian};
 
 /// The number in the two bytes from place `at`.
@@ -51,4 +52,28 @@ pub fn put_u64(bytes: &mut [u8], at: usize, value: u64)
     ensures { bytes.new ≡ take at bytes.old ++ (little_bytes 8 value ++ drop (at + 8) bytes.old) }
 {
     LittleEndian::write_u64(&mut bytes[at..at + 8], value);
+}
+
+/// Appends the two bytes of a number. It refuses for want of memory alone.
+pub fn push_u16(out: &mut Vec<u8>, value: u16) -> Result<(), OutOfMemory>
+    ensures { OnOk result (out.new.items ≡ out.old.items ++ little_bytes 2 value) }
+{
+    out.extend_from_slice(&value.to_le_bytes())?;
+    Ok(())
+}
+
+/// Appends the four bytes of a number. It refuses for want of memory alone.
+pub fn push_u32(out: &mut Vec<u8>, value: u32) -> Result<(), OutOfMemory>
+    ensures { OnOk result (out.new.items ≡ out.old.items ++ little_bytes 4 value) }
+{
+    out.extend_from_slice(&value.to_le_bytes())?;
+    Ok(())
+}
+
+/// Appends the eight bytes of a number. It refuses for want of memory alone.
+pub fn push_u64(out: &mut Vec<u8>, value: u64) -> Result<(), OutOfMemory>
+    ensures { OnOk result (out.new.items ≡ out.old.items ++ little_bytes 8 value) }
+{
+    out.extend_from_slice(&value.to_le_bytes())?;
+    Ok(())
 }

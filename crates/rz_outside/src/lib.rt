@@ -22,6 +22,3 @@ pub use plain_sink::PlainSink;
 pub use plain_store::PlainStore;
 pub use sinks::{PutErr, Sink};
 pub use stores::{ReadErr, Store, WriteErr};
-
-#[cfg(test)]
-mod tests;

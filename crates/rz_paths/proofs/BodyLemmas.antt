@@ -4,14 +4,14 @@ use Rattle.std.specs.Prelude.{◌↔◌}
 use Rattle.std.proofs.lemmas.Bool.{cases_lt, eqb-true}
 use Rattle.std.proofs.lemmas.Option.{same_Some, slice_get-get_or, slice_get_within}
 use Rattle.rz_aset.specs.Sets.{has, with_addresses}
-use Rattle.rz_aset.proofs.Members.{has_at, place_of, with_addresses-at}
+use Rattle.rz_aset.specs.Laws.Places.{has_at, place_of, with_addresses-at}
 use Rattle.rz_classes.specs.declared.listed.Function.{Function}
 use Rattle.rz_paths.specs.Sets.{In, Reached, begin, go}
 use Rattle.rz_paths.specs.Program.{Program}
 use Rattle.rz_paths.specs.Walks.{is_outside, OnWalk}
 use Rattle.rz_paths.specs.Bodies.{is_inner_at, body_leads, function_at, called_of, InBody, calls, InFunctions, kept, walk, body}
 use Rattle.rz_paths.specs.Calls.Brought.{called_among, InBrought, first, more}
-use Rattle.rz_paths.proofs.Booleans.{or_cases, or_left, or_right, and_left, and_right, and_both, never, any_some, some_any}
+use Rattle.rz_paths.specs.Laws.Booleans.{or_cases, or_left, or_right, and_left, and_right, and_both, never, any_some, some_any}
 use Rattle.rz_paths.proofs.Members.{has-more_old, has-more_new, has-more_cases}
 
 module _ (program : Program) (passing : ℕ → Bool) (functions : List Function) (recorded walks : List ℕ) where

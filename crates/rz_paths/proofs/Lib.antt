@@ -1,14 +1,9 @@
-pub mod Booleans
 pub mod Members
-pub mod ListingLemmas
 pub mod Searching
 pub mod FlowLemmas
 pub mod WalkLemmas
 pub mod ReturnLemmas
 pub mod LinkLemmas
-pub mod PlausibleLemmas
-pub mod Growing
-pub mod PassingLemmas
 pub mod WorkedRows
 pub mod LevelLemmas
 pub mod BodyLemmas

@@ -9,7 +9,7 @@ use Rattle.rz_paths.specs.Sets.{In, Edges, joins, Reached}
 use Rattle.rz_paths.specs.Program.{Program, is_ret_at}
 use Rattle.rz_paths.specs.Returns.{IsReturnOf, returns_to}
 use Rattle.rz_paths.specs.Calls.Inside.{IsJoined, IsInside, is_along_at, over_call, calls_back, starts_at, touches, AddsReturns, IsGrouped}
-use Rattle.rz_paths.proofs.Booleans.{or_cases, or_left, or_right, or_false, and_left, and_right, and_both, same_test, eqb_turned, never, In-cons}
+use Rattle.rz_paths.specs.Laws.Booleans.{or_cases, or_left, or_right, or_false, and_left, and_right, and_both, same_test, eqb_turned, never, In-cons}
 use Rattle.rz_paths.proofs.FlowLemmas.{reached_from}
 use Rattle.rz_paths.proofs.ReturnLemmas.{has-push, any_edge, callee_kept, calls_return, inside_reached, starts_touch, start_of}
 

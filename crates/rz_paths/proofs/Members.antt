@@ -3,7 +3,7 @@ use Rattle.std.proofs.Common.{◌≡◌, ℕ, Bool, true, false, ◌||◌, ◌&&
 use Rattle.rz_aset.specs.Sets.{has, with_address, with_addresses, with_edge}
 use Rattle.rz_aset.specs.Laws.Members.{has-with_more, has_edge-with_more}
 use Rattle.rz_paths.specs.Sets.{In, Edges, joins}
-use Rattle.rz_paths.proofs.Booleans.{or_cases, or_left, or_right, or_false, eqb_turned}
+use Rattle.rz_paths.specs.Laws.Booleans.{or_cases, or_left, or_right, or_false, eqb_turned}
 
 or_assoc : (p q r : Bool) → ((p || q) || r) ≡ (p || (q || r))
 or_assoc true q r = refl

@@ -13,7 +13,7 @@ use Rattle.rz_paths.specs.Sets.{In, Edges, joins, Reached, begin, go}
 use Rattle.rz_paths.specs.Program.{Program}
 use Rattle.rz_paths.specs.Returns.{is_call, is_call_before, step_by, step_of, steps_inside, IsReturnOf, IsReturn, returns_to, is_first, IsKept}
 use Rattle.rz_paths.specs.Calls.Inside.{IsJoined, IsInside, is_along, along_of, is_along_at, over_call, calls_back, starts_at, touches}
-use Rattle.rz_paths.proofs.Booleans.{or_cases, or_left, or_right, or_false, and_left, and_right, and_both, same_test, eqb_turned, never, In-cons, any_some, some_any}
+use Rattle.rz_paths.specs.Laws.Booleans.{or_cases, or_left, or_right, or_false, and_left, and_right, and_both, same_test, eqb_turned, never, In-cons, any_some, some_any}
 
 pub has-push : (xs : List ℕ) (y a : ℕ) → has (xs ++ y ∷ []) a ≡ (has xs a || nat_eq a y)
 has-push xs y a = list_any-append (λ x. nat_eq x a) xs (y ∷ []) ∙ ap (λ v. has xs a || v) (or_false (nat_eq y a) ∙ eqb_turned y a)

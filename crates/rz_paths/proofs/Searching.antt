@@ -3,9 +3,9 @@ use Rattle.std.proofs.Common.{◌≡◌, ◌+◌, ◌<◌, ◌≤◌, ◌↔◌,
 use Rattle.std.proofs.lemmas.Bool.{cases_lt}
 use Rattle.std.proofs.lemmas.Option.{same_Some, slice_get-get_or, slice_get_within}
 use Rattle.rz_aset.specs.Sets.{has, with_addresses}
-use Rattle.rz_aset.proofs.Members.{has_at, place_of, with_addresses-at}
+use Rattle.rz_aset.specs.Laws.Places.{has_at, place_of, with_addresses-at}
 use Rattle.rz_paths.specs.Sets.{In, Reached, begin, go}
-use Rattle.rz_paths.proofs.Booleans.{never}
+use Rattle.rz_paths.specs.Laws.Booleans.{never}
 use Rattle.rz_paths.proofs.Members.{has-more_old, has-more_new, has-more_cases}
 
 -- what is found is reached, and has the starts and what each that was followed leads to

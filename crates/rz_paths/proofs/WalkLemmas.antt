@@ -5,7 +5,7 @@ use Rattle.rz_aset.specs.Sets.{has}
 use Rattle.rz_paths.specs.Sets.{In, Edges, joins, Reached, begin, go}
 use Rattle.rz_paths.specs.Program.{Program}
 use Rattle.rz_paths.specs.Walks.{onward_at, is_outside, begins, ends, GoesOn, OnWalk}
-use Rattle.rz_paths.proofs.Booleans.{or_right, and_left, and_right, and_both, never, In-cons, In-head}
+use Rattle.rz_paths.specs.Laws.Booleans.{or_right, and_left, and_right, and_both, never, In-cons, In-head}
 
 module _ (program : Program) (passing : ℕ → Bool) (recorded : List ℕ) where
   abbrev pub walk_leads : ℕ → ℕ → Bool

@@ -11,7 +11,7 @@ use Rattle.rz_paths.specs.Walks.{IsWalk, OnWalk}
 use Rattle.rz_paths.specs.Bodies.{body_leads, InFunctions, walk, body}
 use Rattle.rz_paths.specs.Returns.{IsReturn, is_first}
 use Rattle.rz_paths.specs.Levels.{passes}
-use Rattle.rz_paths.proofs.Booleans.{never}
+use Rattle.rz_paths.specs.Laws.Booleans.{never}
 
 abbrev here : Kind → ℕ → Node
 here kind next = record { kind = kind; next = next; target = None }

@@ -5,3 +5,4 @@ pub mod Bodies
 pub mod Returns
 pub mod Levels
 pub mod Calls
+pub mod Laws

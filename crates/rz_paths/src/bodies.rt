@@ -1,9 +1,7 @@
 // The nodes that calls bring in with their functions.
 
-ghost use Rattle.std.specs.Prelude.{◌≡◌, ◌&&◌, ◌||◌, ◌↔◌, ◌==◌, nat_eq, nat_le, nat_lt, true, ℕ, IfOk};
-ghost use Rattle.std.specs.List.{list_any};
+ghost use Rattle.std.specs.Prelude.{◌≡◌, ◌&&◌, nat_eq, true, ℕ, IfOk};
 ghost use Rattle.rz_aset.specs.Sets.{HasExactly, has};
-ghost use Rattle.rz_paths.specs.Sets.{In};
 ghost use Rattle.rz_paths.specs.Bodies.{is_inner_at, inner_next_at, is_in, function_at, calls, InBody, InFunctions};
 ghost use Rattle.rz_paths.specs.Calls.Brought.{called_among, InBrought};
 

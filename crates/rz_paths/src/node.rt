@@ -3,6 +3,7 @@
 ghost use Rattle.std.specs.Prelude.{◌≡◌, IfOk};
 ghost use Rattle.rz_isa.specs.Nodes.{direct_by};
 ghost use Rattle.rz_paths.specs.Program.{is_branch as branch, is_free as free, is_ret as ret};
+ghost use Rattle.rz_paths.specs.Calls.Listed.{ahead_by};
 
 use rz_isa::Kind;
 use rz_num::OutOfMemory;
@@ -51,8 +52,10 @@ impl Node {
         })
     }
 
-    /// Where control may come to from it, calls returned from. It refuses for want of memory alone.
-    pub fn ahead(&self, alloc: Global) -> Result<Vec<u64>, OutOfMemory> {
+    /// Where control may come to from it, direct calls returned from. It refuses for want of memory alone.
+    pub fn ahead(&self, alloc: Global) -> Result<Vec<u64>, OutOfMemory>
+        ensures { IfOk result (λ list. list.items ≡ ahead_by self.now.kind self.now.target self.now.next) }
+    {
         let mut list = self.successors(alloc)?;
         if let Kind::Call = self.kind {
             list.push(self.next)?;

@@ -1,10 +1,10 @@
 // The edges that a level keeps.
 
-ghost use Rattle.std.specs.Prelude.{◌≡◌, true, ◌&&◌, ◌||◌, ◌↔◌, ℕ, IfOk, OnOk};
+ghost use Rattle.std.specs.Prelude.{◌≡◌, true, ◌&&◌, ◌↔◌, ℕ, IfOk, OnOk};
 ghost use Rattle.rz_aset.specs.Sets.{has};
 ghost use Rattle.rz_paths.specs.Sets.{In, joins};
 ghost use Rattle.rz_paths.specs.Program.{direct_at, is_ret_at};
-ghost use Rattle.rz_paths.specs.Returns.{is_first, is_call_before, is_call as call, IsReturnOf, IsReturn, IsKept};
+ghost use Rattle.rz_paths.specs.Returns.{is_first, IsReturnOf, IsReturn, IsKept};
 ghost use Rattle.rz_paths.specs.Calls.Inside.{AddsReturns, IsGrouped, IsJoined, IsInside, is_along_at, over_call, calls_back, starts_at, touches};
 
 use crate::node::Program;
@@ -30,7 +30,12 @@ pub fn kept_edges<P: Program>(
         (joins set a b ≡ true) ↔ IsKept (P.code program.now) recorded.now nodes.now a b) }
 {
     let first = first_edges(alloc, program, recorded, nodes)?;
-    let back = return_edges(alloc, program, nodes, &first)?;
+    let kept = Kept {
+        program,
+        nodes,
+        edges: &first,
+    };
+    let back = kept.return_edges(alloc)?;
     edge_union(alloc, &first, &back)
 }
 
@@ -90,104 +95,157 @@ fn kept_among(alloc: Global, nodes: &AddrSet, list: &[u64]) -> Result<Vec<u64>, 
     Ok(found)
 }
 
-// The edges from kept returns to what follows the calls whose callees reach them: one search for each callee.
-fn return_edges<P: Program>(
-    alloc: Global,
-    program: &P,
-    nodes: &AddrSet,
-    edges: &EdgeSet,
-) -> Result<EdgeSet, OutOfMemory>
-    requires { IsJoined nodes.now edges.now }
-    ensures { IfOk result (λ set. (x r : ℕ) →
-        (joins set x r ≡ true) ↔ IsReturn (P.code program.now) nodes.now (joins edges.now) x r) }
-{
-    let inside = inside_flow(alloc, program, nodes, edges)?;
-    let back = edges_back(alloc, program, nodes, edges)?;
-    returns_back(alloc, program, nodes, edges, &inside, &back)
+// The kept nodes of a program, and the edges among them that aren't from returns.
+#[derive(Drop)]
+struct Kept<'a, P> {
+    program: &'a P,
+    nodes: &'a AddrSet,
+    edges: &'a EdgeSet,
 }
 
-// The edges from kept returns, by the edges from callees to what follows their calls.
-fn returns_back<P: Program>(
-    alloc: Global,
-    program: &P,
-    nodes: &AddrSet,
-    edges: &EdgeSet,
-    inside: &Flow,
-    back: &EdgeSet,
-) -> Result<EdgeSet, OutOfMemory>
-    requires joined { IsJoined nodes.now edges.now }
-    requires inside { IsInside (P.code program.now) nodes.now edges.now inside.now }
-    requires back { (f r : ℕ) → joins back.now f r ≡ calls_back (P.code program.now) nodes.now edges.now f r }
-    ensures { IfOk result (λ set. (x r : ℕ) →
-        (joins set x r ≡ true) ↔ IsReturn (P.code program.now) nodes.now (joins edges.now) x r) }
-{
-    let after = flow_of_edges(alloc, back)?;
-    let callees = sources(alloc, back)?;
-    returns_after(alloc, program, nodes, edges, inside, &callees, &after)
-}
-
-// The edges from the kept returns that each of some callees reaches to what follows its calls.
-fn returns_after<P: Program>(
-    alloc: Global,
-    program: &P,
-    nodes: &AddrSet,
-    edges: &EdgeSet,
-    inside: &Flow,
-    callees: &AddrSet,
-    after: &Flow,
-) -> Result<EdgeSet, OutOfMemory>
-    requires joined { IsJoined nodes.now edges.now }
-    requires inside { IsInside (P.code program.now) nodes.now edges.now inside.now }
-    requires grouped { IsGrouped (P.code program.now) nodes.now edges.now callees.now after.now }
-    ensures { IfOk result (λ set. (x r : ℕ) →
-        (joins set x r ≡ true) ↔ IsReturn (P.code program.now) nodes.now (joins edges.now) x r) }
-{
-    let mut found = EdgeSet::new(alloc);
-    for f in callees.as_slice() {
-        add_returns(alloc, program, nodes, edges, inside, after, *f, &mut found)?;
+impl<P: Program> Kept<'_, P> {
+    // The edges from kept returns to what follows the calls whose callees reach them: one search for each callee.
+    fn return_edges(&self, alloc: Global) -> Result<EdgeSet, OutOfMemory>
+        requires { IsJoined self.now.nodes.now self.now.edges.now }
+        ensures { IfOk result (λ set. (x r : ℕ) → (joins set x r ≡ true)
+            ↔ IsReturn (P.code self.now.program.now) self.now.nodes.now (joins self.now.edges.now) x r) }
+    {
+        let inside = self.inside_flow(alloc)?;
+        let back = self.edges_back(alloc)?;
+        self.returns_back(alloc, &inside, &back)
     }
-    Ok(found)
-}
 
-// Adds the edges from the kept returns that a callee reaches to what follows its calls.
-fn add_returns<P: Program>(
-    alloc: Global,
-    program: &P,
-    nodes: &AddrSet,
-    edges: &EdgeSet,
-    inside: &Flow,
-    after: &Flow,
-    callee: u64,
-    found: &mut EdgeSet,
-) -> Result<(), OutOfMemory>
-    requires joined { IsJoined nodes.now edges.now }
-    requires inside { IsInside (P.code program.now) nodes.now edges.now inside.now }
-    requires kept { In nodes.now callee }
-    requires known { In after.now.nodes callee }
-    ensures { OnOk result
-        (AddsReturns (P.code program.now) nodes.now edges.now after.now.edges callee found.old found.new) }
-{
-    let returns = returns_of(alloc, program, nodes, edges, inside, callee)?;
-    let next = after.out(alloc, callee)?;
-    add_product(found, &returns, next.as_slice())?;
-    Ok(())
-}
-
-// The graph of the steps inside functions.
-fn inside_flow<P: Program>(
-    alloc: Global,
-    program: &P,
-    nodes: &AddrSet,
-    edges: &EdgeSet,
-) -> Result<Flow, OutOfMemory>
-    ensures { IfOk result (IsInside (P.code program.now) nodes.now edges.now) }
-{
-    let mut flow = flow_along(alloc, program, edges)?;
-    for a in nodes.as_slice() {
-        let next = after_call(alloc, program, nodes, *a)?;
-        link_all(&mut flow, *a, &next)?;
+    // The edges from kept returns, by the edges from callees to what follows their calls.
+    fn returns_back(
+        &self,
+        alloc: Global,
+        inside: &Flow,
+        back: &EdgeSet,
+    ) -> Result<EdgeSet, OutOfMemory>
+        requires joined { IsJoined self.now.nodes.now self.now.edges.now }
+        requires inside { IsInside (P.code self.now.program.now) self.now.nodes.now self.now.edges.now inside.now }
+        requires back { (f r : ℕ) → joins back.now f r
+            ≡ calls_back (P.code self.now.program.now) self.now.nodes.now self.now.edges.now f r }
+        ensures { IfOk result (λ set. (x r : ℕ) → (joins set x r ≡ true)
+            ↔ IsReturn (P.code self.now.program.now) self.now.nodes.now (joins self.now.edges.now) x r) }
+    {
+        let after = flow_of_edges(alloc, back)?;
+        let callees = sources(alloc, back)?;
+        self.returns_after(alloc, inside, &callees, &after)
     }
-    Ok(flow)
+
+    // The edges from the kept returns that each of some callees reaches to what follows its calls.
+    fn returns_after(
+        &self,
+        alloc: Global,
+        inside: &Flow,
+        callees: &AddrSet,
+        after: &Flow,
+    ) -> Result<EdgeSet, OutOfMemory>
+        requires joined { IsJoined self.now.nodes.now self.now.edges.now }
+        requires inside { IsInside (P.code self.now.program.now) self.now.nodes.now self.now.edges.now inside.now }
+        requires grouped { IsGrouped (P.code self.now.program.now) self.now.nodes.now self.now.edges.now
+            callees.now after.now }
+        ensures { IfOk result (λ set. (x r : ℕ) → (joins set x r ≡ true)
+            ↔ IsReturn (P.code self.now.program.now) self.now.nodes.now (joins self.now.edges.now) x r) }
+    {
+        let mut found = EdgeSet::new(alloc);
+        for f in callees.as_slice() {
+            self.add_returns(alloc, inside, after, *f, &mut found)?;
+        }
+        Ok(found)
+    }
+
+    // Adds the edges from the kept returns that a callee reaches to what follows its calls.
+    fn add_returns(
+        &self,
+        alloc: Global,
+        inside: &Flow,
+        after: &Flow,
+        callee: u64,
+        found: &mut EdgeSet,
+    ) -> Result<(), OutOfMemory>
+        requires joined { IsJoined self.now.nodes.now self.now.edges.now }
+        requires inside { IsInside (P.code self.now.program.now) self.now.nodes.now self.now.edges.now inside.now }
+        requires kept { In self.now.nodes.now callee }
+        requires known { In after.now.nodes callee }
+        ensures { OnOk result
+            (AddsReturns (P.code self.now.program.now) self.now.nodes.now self.now.edges.now
+            after.now.edges callee found.old found.new) }
+    {
+        let returns = self.returns_of(alloc, inside, callee)?;
+        let next = after.out(alloc, callee)?;
+        add_product(found, &returns, next.as_slice())?;
+        Ok(())
+    }
+
+    // The graph of the steps inside functions.
+    fn inside_flow(&self, alloc: Global) -> Result<Flow, OutOfMemory>
+        ensures { IfOk result
+            (IsInside (P.code self.now.program.now) self.now.nodes.now self.now.edges.now) }
+    {
+        let mut flow = flow_along(alloc, self.program, self.edges)?;
+        for a in self.nodes.as_slice() {
+            let next = self.after_call(alloc, *a)?;
+            link_all(&mut flow, *a, &next)?;
+        }
+        Ok(flow)
+    }
+
+    // What follows the call at an address, if it is kept.
+    fn after_call(&self, alloc: Global, at: u64) -> Result<Vec<u64>, OutOfMemory>
+        ensures { IfOk result (λ found. (r : ℕ) →
+            has found.items r ≡ over_call (P.code self.now.program.now) self.now.nodes.now at r) }
+    {
+        let mut found = Vec::new(alloc);
+        if let Some(node) = self.program.node_at(at) {
+            if matches!(node.kind, Kind::Call | Kind::CallInd) && self.nodes.contains(node.next) {
+                found.push(node.next)?;
+            }
+        }
+        Ok(found)
+    }
+
+    // The edges from what kept calls lead to, to what follows the calls.
+    fn edges_back(&self, alloc: Global) -> Result<EdgeSet, OutOfMemory>
+        ensures { IfOk result (λ set. (f r : ℕ) → joins set f r
+            ≡ calls_back (P.code self.now.program.now) self.now.nodes.now self.now.edges.now f r) }
+    {
+        let mut back = EdgeSet::new(alloc);
+        for edge in self.edges.as_slice() {
+            let next = self.after_call(alloc, edge.0)?;
+            add_edges_from(&mut back, edge.1, &next)?;
+        }
+        Ok(back)
+    }
+
+    // The kept returns that are reached from a kept address inside a function.
+    fn returns_of(&self, alloc: Global, inside: &Flow, from: u64) -> Result<Vec<u64>, OutOfMemory>
+        requires joined { IsJoined self.now.nodes.now self.now.edges.now }
+        requires inside { IsInside (P.code self.now.program.now) self.now.nodes.now self.now.edges.now inside.now }
+        requires from { In self.now.nodes.now from }
+        ensures { IfOk result (λ list. (x : ℕ) → In list.items x
+            ↔ IsReturnOf (P.code self.now.program.now) self.now.nodes.now (joins self.now.edges.now) from x) }
+    {
+        let mut start = AddrSet::new(alloc);
+        add(&mut start, from)?;
+        let reached = inside.reach_from(alloc, &start)?;
+        self.kept_returns(alloc, reached.as_slice())
+    }
+
+    // Those of the addresses where kept returns stand.
+    fn kept_returns(&self, alloc: Global, list: &[u64]) -> Result<Vec<u64>, OutOfMemory>
+        ensures { IfOk result (λ found. (x : ℕ) → has found.items x ≡ (has list.now x
+            && (is_ret_at (P.code self.now.program.now) x && has self.now.nodes.now x))) }
+    {
+        let mut found = Vec::new(alloc);
+        for x in list {
+            if is_ret(self.program, *x) && self.nodes.contains(*x) {
+                found.push(*x)?;
+            }
+        }
+        Ok(found)
+    }
 }
 
 // The graph of the edges that are followed inside functions.
@@ -214,43 +272,6 @@ fn is_along<P: Program>(program: &P, at: u64) -> bool
     }
 }
 
-// What follows the call at an address, if it is kept.
-fn after_call<P: Program>(
-    alloc: Global,
-    program: &P,
-    nodes: &AddrSet,
-    at: u64,
-) -> Result<Vec<u64>, OutOfMemory>
-    ensures { IfOk result (λ found. (r : ℕ) →
-        has found.items r ≡ over_call (P.code program.now) nodes.now at r) }
-{
-    let mut found = Vec::new(alloc);
-    if let Some(node) = program.node_at(at) {
-        if matches!(node.kind, Kind::Call | Kind::CallInd) && nodes.contains(node.next) {
-            found.push(node.next)?;
-        }
-    }
-    Ok(found)
-}
-
-// The edges from what kept calls lead to, to what follows the calls.
-fn edges_back<P: Program>(
-    alloc: Global,
-    program: &P,
-    nodes: &AddrSet,
-    edges: &EdgeSet,
-) -> Result<EdgeSet, OutOfMemory>
-    ensures { IfOk result (λ set. (f r : ℕ) →
-        joins set f r ≡ calls_back (P.code program.now) nodes.now edges.now f r) }
-{
-    let mut back = EdgeSet::new(alloc);
-    for edge in edges.as_slice() {
-        let next = after_call(alloc, program, nodes, edge.0)?;
-        add_edges_from(&mut back, edge.1, &next)?;
-    }
-    Ok(back)
-}
-
 // The graph of some edges.
 fn flow_of_edges(alloc: Global, edges: &EdgeSet) -> Result<Flow, OutOfMemory>
     ensures nodes { IfOk result (λ flow. (a : ℕ) → has flow.nodes a ≡ touches edges.now a) }
@@ -272,45 +293,4 @@ fn sources(alloc: Global, edges: &EdgeSet) -> Result<AddrSet, OutOfMemory>
         add(&mut set, edge.0)?;
     }
     Ok(set)
-}
-
-// The kept returns that are reached from a kept address inside a function.
-fn returns_of<P: Program>(
-    alloc: Global,
-    program: &P,
-    nodes: &AddrSet,
-    edges: &EdgeSet,
-    inside: &Flow,
-    from: u64,
-) -> Result<Vec<u64>, OutOfMemory>
-    requires joined { IsJoined nodes.now edges.now }
-    requires inside { IsInside (P.code program.now) nodes.now edges.now inside.now }
-    requires from { In nodes.now from }
-    ensures { IfOk result (λ list. (x : ℕ) →
-        In list.items x ↔ IsReturnOf (P.code program.now) nodes.now (joins edges.now) from x) }
-{
-    let _ = edges;
-    let mut start = AddrSet::new(alloc);
-    add(&mut start, from)?;
-    let reached = inside.reach_from(alloc, &start)?;
-    kept_returns(alloc, program, nodes, reached.as_slice())
-}
-
-// Those of the addresses where kept returns stand.
-fn kept_returns<P: Program>(
-    alloc: Global,
-    program: &P,
-    nodes: &AddrSet,
-    list: &[u64],
-) -> Result<Vec<u64>, OutOfMemory>
-    ensures { IfOk result (λ found. (x : ℕ) →
-        has found.items x ≡ (has list.now x && (is_ret_at (P.code program.now) x && has nodes.now x))) }
-{
-    let mut found = Vec::new(alloc);
-    for x in list {
-        if is_ret(program, *x) && nodes.contains(*x) {
-            found.push(*x)?;
-        }
-    }
-    Ok(found)
 }

@@ -1,6 +1,6 @@
 // What is reached from a set along the successors that a graph tells.
 
-ghost use Rattle.std.specs.Prelude.{◌≡◌, ◌&&◌, ◌||◌, Bool, true, nat_eq, ℕ, OnOk, IfOk};
+ghost use Rattle.std.specs.Prelude.{◌≡◌, ◌&&◌, ◌||◌, Bool, nat_eq, ℕ, OnOk, IfOk};
 ghost use Rattle.rz_aset.specs.Sets.{HasExactly, has};
 ghost use Rattle.rz_paths.specs.Sets.{In, Reached, joins};
 

@@ -1,6 +1,6 @@
 // Sets and graphs with more members.
 
-ghost use Rattle.std.specs.Prelude.{◌≡◌, ◌&&◌, ◌||◌, ℕ, nat_eq, true, IfOk, OnOk};
+ghost use Rattle.std.specs.Prelude.{◌≡◌, ◌&&◌, ◌||◌, ℕ, nat_eq, IfOk, OnOk};
 ghost use Rattle.rz_aset.specs.Sets.{has};
 ghost use Rattle.rz_paths.specs.Sets.{joins};
 

@@ -1,5 +1,5 @@
 -- Worked rows: what two runs came to, how far a new file is run, and steps counted.
-use Rattle.std.proofs.Common.{◌≡◌, ℕ, ◌+◌, ◌-◌, ◌^◌, true, false, nat_lt, [], ◌∷◌, length, replicate, Some, None, refl}
+use Rattle.std.proofs.Common.{◌≡◌, true, false, nat_lt, [], ◌∷◌, length, replicate, Some, None, refl}
 use Rattle.rz_image.specs.Perm.{read_execute, read_write}
 use Rattle.rz_elf.specs.declared.elf.Load.{Load}
 use Rattle.rz_elf.specs.Loaded.{ElfFile}
@@ -16,7 +16,7 @@ use Rattle.rz_replay.specs.declared.compare.Ran.{Ran}
 use Rattle.rz_replay.specs.declared.compare.Verdict.TheVariants as verdict
 use Rattle.rz_elf.specs.Executable.{executable_size}
 use Rattle.rz_replay.specs.Counted.{steps_made}
-use Rattle.rz_replay.specs.Verdict.{same_end, first_difference, verdict_at, least, until_decided, new_run}
+use Rattle.rz_replay.specs.Verdict.{same_end, first_difference, verdict_at, least, until_decided}
 
 -- two system calls: a write of two bytes, and an exit
 written : Event

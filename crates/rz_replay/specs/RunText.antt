@@ -1,17 +1,14 @@
 -- The text of a run: a line for each of its system calls, and one for its end.
-use Rattle.std.specs.Prelude.{ℕ, false, List, [], ◌∷◌, ◌++◌, codes, decimal, flat_map, Option, Some, None}
-use Rattle.std.specs.Fmt.{digits, signed_decimal}
+use Rattle.std.specs.Prelude.{ℕ, List, [], ◌∷◌, ◌++◌, codes, decimal, flat_map, Option, Some, None}
+use Rattle.std.specs.Fmt.{signed_decimal}
 use Rattle.std.specs.Int.{w64, cast_signed}
 use Rattle.hex.specs.Hex.{encode_lower}
+use Rattle.rz_num.specs.Texts.{hex_text}
 use Rattle.rz_sys.specs.declared.event.Event.{Event}
 use Rattle.rz_elf.specs.Loaded.{ElfFile}
 use Rattle.rz_machine.specs.declared.machine.End.{End}
 use Rattle.rz_machine.specs.declared.machine.End.TheVariants as end
 use Rattle.rz_machine.specs.Stub.{stub_word_of}
-
--- a hexadecimal number: 0x and lower-case digits
-abbrev pub hex_text : ℕ → List ℕ
-hex_text n = codes "0x" ++ digits 16 false n
 
 -- a word as a signed number (two's complement; Intel SDM, volume 1, section 4.2.1.2)
 abbrev pub signed_text : ℕ → List ℕ

@@ -4,5 +4,3 @@
 pub mod compare;
 pub mod count;
 pub mod run_text;
-#[cfg(test)]
-mod tests;

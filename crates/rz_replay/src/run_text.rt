@@ -1,7 +1,8 @@
 //! The text of a run.
 
 ghost use Rattle.std.specs.Prelude.{◌≡◌, [], ◌∷◌, ◌++◌, string_bytes, flat_map, IfOk, OnOk};
-ghost use Rattle.rz_replay.specs.RunText.{call_line, call_text as text_of_call, moved_text, end_text as text_of_end, hex_text, last_line as line_of_end, run_text_of};
+ghost use Rattle.rz_num.specs.Texts.{hex_text};
+ghost use Rattle.rz_replay.specs.RunText.{call_line, call_text as text_of_call, moved_text, end_text as text_of_end, last_line as line_of_end, run_text_of};
 
 use rz_elf::elf::Elf;
 use rz_machine::machine::{End, Machine};

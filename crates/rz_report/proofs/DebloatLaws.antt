@@ -7,7 +7,7 @@ use Rattle.rz_elf.specs.Room.{extent_of}
 use Rattle.rz_machine.specs.Added.{sites, site_edges}
 use Rattle.rz_machine.specs.Kept.{Kept, Edges, sorted, sorted_edges}
 use Rattle.rz_machine.specs.Nodes.{code_in}
-use Rattle.rz_rewrite.proofs.RewriteLaws.{range_is}
+use Rattle.rz_rewrite.specs.Laws.Measured.{range_is}
 use Rattle.rz_report.specs.Report.{report_text, debloat_report_of}
 
 pub counted : (dec : Decoder) (x : List ℕ) (kept : Kept) (nodes : List ℕ) (edges : Edges) → nodes ≡ sorted kept.nodes → edges ≡ sorted_edges kept.edges

@@ -8,7 +8,8 @@ use Rattle.json.proofs.Printed.Strings.{escape_byte_plain}
 use Rattle.serde_json.specs.Data.{string, number, unsigned, object, member, no_members, array, item, no_items}
 use Rattle.serde_json.specs.Written.{compact_text}
 use Rattle.serde_json.proofs.OnLiterals.{serde_json_on_literals}
-use Rattle.rz_report.specs.Report.{hex_text, report_text, pair_text}
+use Rattle.rz_num.specs.Texts.{hex_text}
+use Rattle.rz_report.specs.Report.{report_text, pair_text}
 
 -- a byte that a JSON text has as it is
 record StandsBare (x : ℕ) : Type 0 where

@@ -1,6 +1,6 @@
 -- The reports: of a debloating, and of an original with its new file. Each is one line of compact JSON.
-use Rattle.std.specs.Prelude.{ℕ, false, List, ◌++◌, length, codes, decimal}
-use Rattle.std.specs.Fmt.{digits}
+use Rattle.std.specs.Prelude.{ℕ, List, ◌++◌, length, codes, decimal}
+use Rattle.rz_num.specs.Texts.{hex_text}
 use Rattle.rz_isa.specs.Nodes.{Decoder}
 use Rattle.rz_elf.specs.Elf.{Image}
 use Rattle.rz_elf.specs.Loaded.{ElfFile}
@@ -8,10 +8,6 @@ use Rattle.rz_machine.specs.Added.{added, node_count, site_count, site_edge_coun
 use Rattle.rz_machine.specs.Kept.{Kept, sorted_edges}
 use Rattle.rz_elf.specs.Executable.{executable_size}
 use Rattle.rz_report.specs.Stubs.{stub_count}
-
--- a hexadecimal number: 0x and lower-case digits
-abbrev pub hex_text : ℕ → List ℕ
-hex_text n = codes "0x" ++ digits 16 false n
 
 -- where the added range begins, and how many edges, instructions, site edges and sites are kept
 abbrev pub report_text : ℕ → ℕ → ℕ → ℕ → ℕ → List ℕ

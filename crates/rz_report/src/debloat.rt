@@ -3,12 +3,12 @@
 ghost use Rattle.std.specs.Prelude.{◌≡◌, [], ◌∷◌, ◌++◌, codes, string_bytes, None, IfOk};
 ghost use Rattle.serde_json.specs.Data.{number, unsigned, string, object, member, no_members};
 ghost use Rattle.serde_json.specs.View.{view};
+ghost use Rattle.rz_num.specs.Texts.{hex_text};
 ghost use Rattle.rz_elf.specs.Elf.{image_of};
 ghost use Rattle.rz_isa.specs.Decoded.{decoded};
-ghost use Rattle.rz_machine.specs.Added.{added as added_of};
 ghost use Rattle.rz_machine.specs.Traced.{kept_in};
 ghost use Rattle.rz_rewrite.specs.Refusals.{no_room_for};
-ghost use Rattle.rz_report.specs.Report.{debloat_report_of, hex_text, report_text};
+ghost use Rattle.rz_report.specs.Report.{debloat_report_of, report_text};
 
 use rz_aset::Record;
 use rz_elf::elf::Elf;
@@ -61,7 +61,7 @@ pub(crate) fn with_line_end(alloc: Global, text: &str) -> Result<Bytes, OutOfMem
 }
 
 // The report without its line end.
-pub(crate) fn report_line(
+fn report_line(
     alloc: Global,
     added: u64,
     edges: u64,

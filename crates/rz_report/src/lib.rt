@@ -4,5 +4,3 @@
 pub mod debloat;
 pub mod pair;
 mod stubs;
-#[cfg(test)]
-mod tests;

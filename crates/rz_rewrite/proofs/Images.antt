@@ -9,7 +9,7 @@ use Rattle.rz_image.specs.Memory.{Cell, Regions, contains, cell_in, cell_at, cod
 use Rattle.rz_elf.specs.AddedRange.{scratch_size}
 use Rattle.rz_elf.specs.WrittenFile.{Parts, added_regions, without_code}
 use Rattle.rz_image.specs.Perm.{read_write, read_only, read_execute}
-use Rattle.rz_machine.proofs.Placed.{BytesAt, bytes_from}
+use Rattle.rz_machine.specs.Laws.Placed.{BytesAt, bytes_from}
 use Rattle.rz_image.specs.Laws.Zeros.{length-zeros}
 use Rattle.rz_image.specs.Laws.Cells.{apart, inside, IsFixed}
 

@@ -32,11 +32,11 @@ use Rattle.rz_machine.specs.Pace.{Paced}
 use Rattle.rz_machine.specs.Placement.{FragmentAt, IsPlacement, IsPlaced}
 use Rattle.rz_machine.specs.Simulates.{InsnAt, ItemsFrom, HasScratch, label_at}
 use Rattle.rz_machine.specs.Start.{start, heap_region, stack_region}
-use Rattle.rz_machine.proofs.CodeLaws.{fetch_same}
-use Rattle.rz_machine.proofs.Placed.{BytesAt, insn_of_bytes}
-use Rattle.rz_machine.proofs.PlacedRuns.{placements_keep}
-use Rattle.rz_machine.proofs.SetLaws.{has_node-sorted, IsAscending-sorted}
-use Rattle.rz_machine.proofs.StartCode.{start_code}
+use Rattle.rz_machine.specs.Laws.Code.{fetch_same}
+use Rattle.rz_machine.specs.Laws.Placed.{BytesAt, insn_of_bytes}
+use Rattle.rz_machine.specs.Laws.PlacedRuns.{placements_keep}
+use Rattle.rz_machine.specs.Laws.Sets.{has_node-sorted, IsAscending-sorted}
+use Rattle.rz_machine.specs.Laws.StartCode.{start_code}
 use Rattle.rz_emit.specs.Emitted.{code_bytes}
 use Rattle.rz_rewrite.specs.Fragments.{items_of, items_for, node_items, trimmed}
 use Rattle.rz_rewrite.specs.Reach.{is_out_of_reach}

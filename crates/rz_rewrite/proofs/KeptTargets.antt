@@ -4,7 +4,7 @@ use Rattle.std.specs.List.{AllByRecursion}
 use Rattle.std.proofs.lemmas.Bool.{or_left, or_right}
 use Rattle.std.proofs.lemmas.List.{length-map}
 use Rattle.rz_machine.specs.Kept.{Edges, has_node, has_edge, sorted_edges}
-use Rattle.rz_machine.proofs.SetLaws.{has_edge-sorted}
+use Rattle.rz_machine.specs.Laws.Sets.{has_edge-sorted}
 use Rattle.rz_rewrite.specs.Fragments.{targets_of}
 
 -- what holds of each member of a list

@@ -1,9 +1,10 @@
 -- The code of a new file: its fragments can be laid out, and what was laid out and emitted is the new code.
-use Rattle.std.proofs.Common.{◌≡◌, ℕ, ◌+◌, ◌-◌, ◌*◌, ◌^◌, ◌<◌, ◌≤◌, Bool, true, false, ◌||◌, ◌==◌, if◌then◌else◌, List, [], ◌∷◌, length, map, Option, Some, All, refl, sym, ap, ap₂, ◌∙◌, subst, subst₂, arith, append-nil, eqb-true, eq-eqb, ne_eqb}
+use Rattle.std.proofs.Common.{◌≡◌, ℕ, ◌+◌, ◌-◌, ◌*◌, ◌^◌, ◌<◌, ◌≤◌, Bool, true, false, ◌||◌, ◌==◌, if◌then◌else◌, List, [], ◌∷◌, length, map, Option, Some, refl, sym, ap, ap₂, ◌∙◌, subst, subst₂, arith, append-nil, eqb-true, eq-eqb, ne_eqb}
 use Rattle.std.specs.List.{AllByRecursion}
 use Rattle.std.specs.Option.{option_map}
 use Rattle.std.specs.Prelude.{slice_index}
 use Rattle.std.proofs.lemmas.Bool.{cond-true, cond-false}
+use Rattle.std.proofs.lemmas.List.{length-append}
 use Rattle.std.proofs.lemmas.List.Elements.{All-from_recursion}
 use Rattle.rz_isa.specs.declared.rows.Row.{Row}
 use Rattle.rz_isa.specs.declared.rows.Form.{Form}
@@ -15,29 +16,30 @@ use Rattle.rz_isa.specs.declared.fragment_list.Fragment.{Fragment}
 use Rattle.rz_isa.specs.declared.fragment_list.Fragments.{Fragments}
 use Rattle.rz_isa.specs.Decoded.{decoded}
 use Rattle.rz_isa.specs.Insn.{kind_of}
-use Rattle.rz_isa.specs.Items.{slots, slots_from, item_count, fragment_number, first_number}
+use Rattle.rz_isa.specs.Items.{slots, slots_from, list_slots, item_count, fragment_number, first_number}
 use Rattle.rz_isa.specs.Nodes.{Decoder, is_site, is_site_at, spelled_at}
 use Rattle.rz_isa.specs.Plan.{place, code_end, IsPlan, IsLeastPlan}
-use Rattle.rz_isa.specs.Sizes.{CanMove, IsSized}
+use Rattle.rz_isa.specs.Sizes.{IsSized}
 use Rattle.rz_image.specs.Memory.{wrap}
 use Rattle.rz_elf.specs.Elf.{Image}
 use Rattle.rz_elf.specs.AddedRange.{Added}
 use Rattle.rz_machine.specs.Added.{added, node_count, site_count, site_edge_count}
 use Rattle.rz_machine.specs.Kept.{Kept, Edges, has_node, sorted, sorted_edges, IsAscending}
 use Rattle.rz_machine.specs.Nodes.{code_in}
-use Rattle.rz_machine.proofs.SetLaws.{has_node-sorted, IsAscending-sorted}
+use Rattle.rz_machine.specs.Laws.Sets.{has_node-sorted, IsAscending-sorted}
 use Rattle.rz_layout.specs.declared.plan.Layout.{Layout}
 use Rattle.rz_layout.specs.Layout.{nodes_of, all_near, forms_of, AreLow, AreFirst, ArePlaces}
 use Rattle.rz_layout.specs.Layout.{IsAscending as IsUp}
 use Rattle.rz_layout.specs.NearPlan.{IsKnown, IsSizedFragment, most_total, CanStand, StandsNear}
 use Rattle.rz_layout.specs.Laws.{LeastIsShortest, SizedStandNear}
-use Rattle.rz_emit.specs.Emitted.{keys_of, code_bytes, emitted, filled, IsOrdered}
+use Rattle.rz_emit.specs.Emitted.{keys_of, code_bytes, emitted, filled}
 use Rattle.rz_rewrite.specs.Fragments.{targets_of, items_for, node_items, trimmed, first_node, fragment_list, stub_pairs}
 use Rattle.rz_rewrite.specs.Reach.{is_out_of_reach}
 use Rattle.rz_rewrite.specs.Rewritten.{IsFit, fragments_of, place_by, place_or_zero}
 use Rattle.rz_rewrite.specs.Calls.Places.{places_from, beside_or_zero}
 use Rattle.rz_rewrite.specs.declared.added.AddedRange.{AddedRange}
 use Rattle.rz_rewrite.specs.declared.code.NewCode.{NewCode}
+use Rattle.rz_rewrite.specs.Calls.Laid.{MayLay, IsLaid}
 use Rattle.rz_rewrite.specs.Calls.Plan.{range_of, IsMovable, CanMoveAt, AreMovable, IsNewCode}
 use Rattle.rz_rewrite.specs.Calls.Table.{TableFacts}
 use Rattle.rz_rewrite.proofs.KeptTargets.{each_member, has_target, target_count}
@@ -137,6 +139,13 @@ module _ (items : ℕ → List Item) (some : (a : ℕ) (o : Option ℕ) → (i :
           either : (u : Bool) → has_node nodes b ≡ true → (u || has_node nodes b) ≡ true
           either true h = refl
           either false h = h
+
+-- there is a slot for each item of the fragments
+pub item_slots : (f : Fragments) → item_count f.list ≤ length (slots f)
+item_slots f =
+    let e = slots_long 0 f.list in
+    let all = length-append (slots_from 0 f.list) (list_slots (item_count f.list) f.routine) in
+    omega (arith, e, all)
 
 -- ---- what is kept of a plain image, where it fits
 
@@ -331,7 +340,7 @@ module _ (rows : List Row) (facts : TableFacts rows) (x : Image) (kept : Kept) (
     pub tables : f.tables ≡ []
     pub stubs : f.stubs ≡ stub_pairs range.stubs nodes
 
-  made_is : (range : AddedRange) (f : Fragments) → Made range f → f ≡ frags
+  pub made_is : (range : AddedRange) (f : Fragments) → Made range f → f ≡ frags
   made_is range f m =
       let scratch : range.scratch ≡ a.scratch = ap (λ (b : Added). b.scratch) m.range_is in
       let stubs : range.stubs ≡ a.stubs = ap (λ (b : Added). b.stubs) m.range_is in
@@ -341,22 +350,13 @@ module _ (rows : List Row) (facts : TableFacts rows) (x : Image) (kept : Kept) (
       let t = m.tables in
       λ i. record { list = l i; routine = r i; tables = t i; stubs = s i }
 
-  -- what their layout and emission ask
-  pub record MayLay (code stubs : ℕ) (f : Fragments) : Type 0 where
-    pub ascending : IsUp (nodes_of f.list)
-    pub near : IsPlan rows f code (all_near f)
-    pub ends : code_end rows f code (all_near f) ≤ stubs
-    pub low : stubs < 2 ^ 31
-    pub items : All (λ s. CanMove s.item) (slots f)
-    pub low_stubs : AreLow f.stubs
-    pub ordered : IsOrdered f
-
-  pub may_lay : SizedStandNear → (range : AddedRange) (f : Fragments) → Made range f → MayLay range.code range.stubs f
+  -- they meet what their layout and emission ask
+  pub may_lay : SizedStandNear → (range : AddedRange) (f : Fragments) → Made range f → MayLay rows range.code range.stubs f
   may_lay law range f m =
       let near = law rows frags a.code most can_stand in
       let code : a.code ≡ range.code = sym (ap (λ (b : Added). b.code) m.range_is) in
       let stubs : a.stubs ≡ range.stubs = sym (ap (λ (b : Added). b.stubs) m.range_is) in
-      let all : MayLay a.code a.stubs frags = record {
+      let all : MayLay rows a.code a.stubs frags = record {
         ascending = list_up;
         near = near.plan;
         ends = below (code_end rows frags a.code (all_near frags)) (a.code + most_total most frags.list) a.stubs near.ends near_room;
@@ -365,7 +365,7 @@ module _ (rows : List Row) (facts : TableFacts rows) (x : Image) (kept : Kept) (
         low_stubs = all_stubs_low;
         ordered = record { fragments = list_up; stubs = stubs_up; tables = tt };
       } in
-      subst (λ c. MayLay c range.stubs f) code (subst (λ s. MayLay a.code s f) stubs (subst (MayLay a.code a.stubs) (sym (made_is range f m)) all))
+      subst (λ c. MayLay rows c range.stubs f) code (subst (λ s. MayLay rows a.code s f) stubs (subst (MayLay rows a.code a.stubs) (sym (made_is range f m)) all))
     where
       below : (e t s : ℕ) → e ≤ t → t + 512 ≤ s → e ≤ s
       below e t s h k = omega (arith, h, k)
@@ -373,23 +373,12 @@ module _ (rows : List Row) (facts : TableFacts rows) (x : Image) (kept : Kept) (
       under : (s n : ℕ) → s + n < 2 ^ 31 → s < 2 ^ 31
       under s n h = omega (arith, h)
 
-  -- what was laid out and emitted
-  pub record IsLaid (range : AddedRange) (f : Fragments) (laid : Layout) (code : NewCode) : Type 0 where
-    pub base : laid.base ≡ range.code
-    pub stop : laid.stubs ≡ range.stubs
-    pub plan : IsPlan rows f range.code (forms_of laid)
-    pub places : ArePlaces rows f range.code (forms_of laid) laid.places
-    pub least : IsLeastPlan rows f range.code (forms_of laid)
-    pub bytes : code.bytes ≡ emitted rows f laid
-    pub spots : code.places ≡ places_from laid.places 0 f.list
-    pub stubs : code.stubs ≡ f.stubs
-    pub entry : code.entry ≡ beside_or_zero code.places x.entry
-
-  pub new_code_is : SizedStandNear → LeastIsShortest → (range : AddedRange) (f : Fragments) (laid : Layout) (code : NewCode) → Made range f → IsLaid range f laid code → IsNewCode rows x kept range code
-  new_code_is law shortest range f laid code m h =
-      let same = made_is range f m in
-      let begins : range.code ≡ a.code = ap (λ (b : Added). b.code) m.range_is in
-      let stubs : range.stubs ≡ a.stubs = ap (λ (b : Added). b.stubs) m.range_is in
+  -- what was laid out of them and emitted is the new code
+  pub new_code_is : SizedStandNear → LeastIsShortest → (range : AddedRange) (f : Fragments) (code : NewCode) → range_of range ≡ a → f ≡ frags → IsLaid rows range f x.entry code → IsNewCode rows x kept range code
+  new_code_is law shortest range f code range_is same h =
+      let laid : Layout = h.laid in
+      let begins : range.code ≡ a.code = ap (λ (b : Added). b.code) range_is in
+      let stubs : range.stubs ≡ a.stubs = ap (λ (b : Added). b.stubs) range_is in
       let forms = forms_of laid in
       let plan : IsPlan rows frags range.code forms = subst (λ g. IsPlan rows g range.code forms) same h.plan in
       let least : IsLeastPlan rows frags range.code forms = subst (λ g. IsLeastPlan rows g range.code forms) same h.least in
@@ -408,16 +397,9 @@ module _ (rows : List Row) (facts : TableFacts rows) (x : Image) (kept : Kept) (
         places = spots;
         stubs = h.stubs ∙ ap (λ (g : Fragments). g.stubs) same ∙ ap (λ s. stub_pairs s nodes) (sym stubs);
         entry =
-            h.entry ∙ ap (λ l. beside_or_zero l x.entry) spots
+            h.begins ∙ ap (λ l. beside_or_zero l x.entry) spots
             ∙ subst (λ c. beside_or_zero (map (λ b. (b, place_by rows frags c forms b)) nodes) x.entry ≡ place_by rows frags c forms x.entry) (sym begins) (entry_place forms);
       }
-
-  -- there is a place for each item
-  pub item_places : (range : AddedRange) (f : Fragments) (forms : List Form) (places : List ℕ) → Made range f → ArePlaces rows f range.code forms places → item_count f.list ≤ length places
-  item_places range f forms places m are =
-      let all : length (slots f) ≡ item_count f.list = subst (λ (g : Fragments). length (slots g) ≡ item_count g.list) (sym (made_is range f m)) (ap length (append-nil (slots_from 0 frags.list)) ∙ slots_long 0 frags.list) in
-      let each = are.each in
-      omega (arith, all, each)
 
   -- the new entry lies in the code part, and the code fits it
   pub entry_inside : (range : AddedRange) → range_of range ≡ a → (code : NewCode) (is : IsNewCode rows x kept range code)

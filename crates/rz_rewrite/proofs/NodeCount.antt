@@ -4,7 +4,7 @@ use Rattle.rz_isa.specs.Nodes.{Decoder}
 use Rattle.rz_elf.specs.Elf.{Image}
 use Rattle.rz_machine.specs.Added.{node_count}
 use Rattle.rz_machine.specs.Kept.{Kept, has_node, sorted}
-use Rattle.rz_machine.proofs.SetLaws.{has_node-sorted}
+use Rattle.rz_machine.specs.Laws.Sets.{has_node-sorted}
 use Rattle.rz_rewrite.specs.Rewritten.{CanRewrite}
 
 -- the entry is one

@@ -17,7 +17,7 @@ use Rattle.rz_machine.specs.declared.way.Way.TheVariants.{Onward, Jumps, Branche
 use Rattle.rz_machine.specs.Way.{way_of}
 use Rattle.rz_machine.specs.Added.{index_of}
 use Rattle.rz_machine.specs.Kept.{Edges, has_edge}
-use Rattle.rz_machine.proofs.WayLaws.{kind_in, kind_by_way}
+use Rattle.rz_machine.specs.Laws.Ways.{kind_in, kind_by_way}
 use Rattle.rz_frag.specs.Fragment.{items_by, fragment_items}
 use Rattle.rz_sites.specs.Site.{load_value, check, site_items}
 use Rattle.rz_rewrite.specs.Fragments.{targets_of, items_for, node_items, is_needless, trimmed, stub_pairs}

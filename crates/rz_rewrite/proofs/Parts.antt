@@ -8,7 +8,7 @@ use Rattle.rz_machine.specs.Added.{index_of}
 use Rattle.rz_elf.specs.AddedRange.{Added, lowest, parts_below, scratch_size, stub_bytes, all_stubs, filled}
 use Rattle.rz_machine.specs.Kept.{has_node}
 use Rattle.rz_elf.specs.PlainImage.{IsPlainRegion}
-use Rattle.rz_machine.proofs.Placed.{BytesAt, bytes_back}
+use Rattle.rz_machine.specs.Laws.Placed.{BytesAt, bytes_back}
 
 -- rounding up doesn't lower
 pub page_up-least : (n : ℕ) → n ≤ page_up n

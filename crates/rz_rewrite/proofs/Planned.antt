@@ -10,7 +10,7 @@ use Rattle.rz_elf.specs.Laws.Loads.{loaded_image}
 use Rattle.rz_elf.specs.Laws.PlainAccepted.{accepted_plain}
 use Rattle.rz_machine.specs.Kept.{Kept}
 use Rattle.rz_machine.specs.Start.{HasHeapRoom}
-use Rattle.rz_machine.proofs.StartHeap.{read_room}
+use Rattle.rz_machine.specs.Laws.StartHeap.{read_room}
 use Rattle.rz_rewrite.specs.declared.added.AddedRange.{AddedRange}
 use Rattle.rz_rewrite.specs.Rewritten.{IsFit}
 use Rattle.rz_rewrite.specs.Calls.Plan.{IsPlanned}

@@ -1,5 +1,5 @@
 -- The new file of an accepted file: what it is made of, and that it keeps the file's runs.
-use Rattle.std.proofs.Common.{◌≡◌, ℕ, ◌+◌, ◌*◌, ◌-◌, ◌<◌, ◌≤◌, Bool, true, false, ◌||◌, ◌==◌, List, [], ◌∷◌, length, map, Option, None, refl, sym, ap, ap₂, ◌∙◌, subst, subst₂, arith, eq-eqb, eqb-true, ne_eqb}
+use Rattle.std.proofs.Common.{◌≡◌, ℕ, ◌+◌, ◌*◌, ◌-◌, ◌<◌, ◌≤◌, Bool, true, false, ◌||◌, ◌==◌, List, [], ◌∷◌, length, map, None, refl, sym, ap, ap₂, ◌∙◌, subst, subst₂, arith, eq-eqb, eqb-true, ne_eqb}
 use Rattle.std.specs.List.{AllByRecursion}
 use Rattle.std.proofs.lemmas.Bool.{cond-true, cond-false}
 use Rattle.rz_isa.specs.declared.rows.Row.{Row}
@@ -13,21 +13,21 @@ use Rattle.rz_elf.specs.AddedRange.{Added, stub_size, tables_size, code_size, st
 use Rattle.rz_elf.specs.PlainImage.{IsPlainImage}
 use Rattle.rz_elf.specs.Room.{extent_of, no_room}
 use Rattle.rz_elf.specs.WrittenFile.{Parts, new_image, written_file}
-use Rattle.rz_machine.specs.Added.{sites, site_edges, node_count, site_count, site_edge_count, added, layout_of, index_of}
+use Rattle.rz_machine.specs.Added.{sites, site_edges, added, layout_of, index_of}
 use Rattle.rz_machine.specs.Keeps.{KeepsRun}
 use Rattle.rz_machine.specs.Kept.{Kept, Edges, has_node, sorted, sorted_edges, IsAscending}
 use Rattle.rz_machine.specs.Nodes.{code_in}
 use Rattle.rz_machine.specs.Pace.{Paced}
 use Rattle.rz_machine.specs.Placement.{IsPlaced}
 use Rattle.rz_machine.specs.Start.{start, HasHeapRoom}
-use Rattle.rz_machine.proofs.SetLaws.{IsAscending-sorted}
+use Rattle.rz_machine.specs.Laws.Sets.{IsAscending-sorted}
 use Rattle.rz_emit.specs.Emitted.{code_bytes, filled as filled_code}
 use Rattle.rz_rewrite.specs.declared.added.AddedRange.{AddedRange}
 use Rattle.rz_rewrite.specs.declared.code.NewCode.{NewCode}
 use Rattle.rz_rewrite.specs.declared.rewrite.New.{New}
 use Rattle.rz_rewrite.specs.Fragments.{stub_pairs}
-use Rattle.rz_rewrite.specs.Reach.{first_out_of_reach}
-use Rattle.rz_rewrite.specs.Refusals.{rip_reach_of, no_room_for, size_for}
+use Rattle.rz_rewrite.specs.Refusals.{rip_reach_of, size_for}
+use Rattle.rz_rewrite.specs.Laws.Measured.{room_is, range_is}
 use Rattle.rz_rewrite.specs.Rewritten.{CanRewrite, IsFit, IsRewritten, bound_of, fragments_of, place_by}
 use Rattle.rz_rewrite.specs.Calls.Plan.{range_of, IsPlanned, IsNewCode, IsNew}
 use Rattle.rz_rewrite.specs.Calls.Table.{TableFacts}
@@ -139,30 +139,9 @@ module _ (rows : List Row) (facts : TableFacts rows) (x : List ℕ) (kept : Kept
 
 -- ---- what is measured of a kept set, by its sorted lists
 
--- the first of the nodes in order whose operand is out of reach
-pub reach_is : (dec : Decoder) (x : List ℕ) (kept : Kept) (nodes : List ℕ) → nodes ≡ sorted kept.nodes → (r : Option ℕ) → r ≡ first_out_of_reach dec (code_in (image_of x).loads) nodes → rip_reach_of dec x kept ≡ r
-reach_is dec x kept nodes same r is = ap (first_out_of_reach dec (code_in (image_of x).loads)) (sym same) ∙ sym is
-
 module _ (dec : Decoder) (x : List ℕ) (kept : Kept) (nodes : List ℕ) (edges : Edges) (nodes_are : nodes ≡ sorted kept.nodes) (edges_are : edges ≡ sorted_edges kept.edges)
     (j e : ℕ) (j_is : j ≡ length (sites dec (code_in (image_of x).loads) nodes)) (e_is : e ≡ length (site_edges dec (code_in (image_of x).loads) edges)) where
-  n_same : length nodes ≡ node_count kept
-  n_same = ap length nodes_are
-
-  j_same : j ≡ site_count dec (image_of x) kept
-  j_same = j_is ∙ ap (λ l. length (sites dec (code_in (image_of x).loads) l)) nodes_are
-
-  e_same : e ≡ site_edge_count dec (image_of x) kept
-  e_same = e_is ∙ ap (λ l. length (site_edges dec (code_in (image_of x).loads) l)) edges_are
-
-  -- why there is no room
-  pub room_is : no_room (extent_of x) (size_for (length nodes) j e) ≡ no_room_for dec x kept
-  room_is = λ i. no_room (extent_of x) (size_for (n_same i) (j_same i) (e_same i))
-
-  -- and where the parts lie
-  pub range_is : parts_below (tables_size j e) (code_size (length nodes) j e) (stubs_size (length nodes)) (extent_of x).floor ≡ added dec (image_of x) kept
-  range_is = λ i. parts_below (tables_size (j_same i) (e_same i)) (code_size (n_same i) (j_same i) (e_same i)) (stubs_size (n_same i)) (extent_of x).floor
-
   pub planned : (r : AddedRange) → IsPlainImage (image_of x) → HasHeapRoom (image_of x) → CanRewrite dec (image_of x) kept → rip_reach_of dec x kept ≡ None → no_room (extent_of x) (size_for (length nodes) j e) ≡ None
       → range_of r ≡ parts_below (tables_size j e) (code_size (length nodes) j e) (stubs_size (length nodes)) (extent_of x).floor → IsPlanned dec x kept r
   planned r plain heap can reach free is =
-      record { plain = plain; heap = heap; plausible = can; reach = reach; room = sym room_is ∙ free; range_is = is ∙ range_is }
+      record { plain = plain; heap = heap; plausible = can; reach = reach; room = sym (room_is dec x kept nodes edges nodes_are edges_are j e j_is e_is) ∙ free; range_is = is ∙ range_is dec x kept nodes edges nodes_are edges_are j e j_is e_is }

@@ -18,7 +18,7 @@ use Rattle.rz_encode.specs.Laws.{DecodesBack}
 use Rattle.rz_encode.specs.Length.{CanonicalLengths}
 use Rattle.rz_image.specs.Memory.{Regions, fetch}
 use Rattle.rz_machine.specs.Simulates.{InsnAt}
-use Rattle.rz_machine.proofs.Placed.{BytesAt, bytes_front, bytes_back, insn_of_bytes}
+use Rattle.rz_machine.specs.Laws.Placed.{BytesAt, bytes_front, bytes_back, insn_of_bytes}
 use Rattle.rz_emit.specs.Emitted.{insn_of, item_bytes, bytes_or_none, spelling, bytes_from, code_bytes}
 
 -- what holds of each slot of a list, the first of which has the number k

@@ -3,3 +3,4 @@ pub mod Rewritten
 pub mod Reach
 pub mod Refusals
 pub mod Calls
+pub mod Laws

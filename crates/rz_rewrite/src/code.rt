@@ -6,6 +6,8 @@ ghost use Rattle.rz_isa.specs.Decoded.{decoded};
 ghost use Rattle.rz_isa.specs.Items.{item_count};
 ghost use Rattle.rz_machine.specs.Kept.{sorted, sorted_edges};
 ghost use Rattle.rz_machine.specs.Traced.{kept_in};
+ghost use Rattle.rz_rewrite.specs.Rewritten.{fragments_of};
+ghost use Rattle.rz_rewrite.specs.Calls.Laid.{MayLay, IsLaid};
 ghost use Rattle.rz_rewrite.specs.Calls.Plan.{IsPlanned, IsNewCode};
 ghost use Rattle.rz_rewrite.specs.Calls.Places.{places_from, beside_or_zero};
 
@@ -49,17 +51,52 @@ pub fn new_code<T: InsnTable>(
     table_facts::<T>();
     sized_stand_near();
     least_is_shortest();
+    let frags = kept_fragments::<T>(alloc, elf, nodes, edges, kept, range)?;
+    laid_code::<T>(alloc, frags, range, elf.entry)
+}
+
+// The fragments of what is kept of a file, with the stubs of its nodes.
+fn kept_fragments<T: InsnTable>(
+    alloc: Global,
+    elf: &Elf,
+    nodes: &[u64],
+    edges: &[(u64, u64)],
+    kept: &Record,
+    range: &AddedRange,
+) -> Result<Fragments, OutOfMemory>
+    requires nodes { nodes.now ≡ sorted kept.now.nodes }
+    requires edges { edges.now ≡ sorted_edges kept.now.edges }
+    requires can { IsPlanned (decoded T.rows) elf.now.bytes (kept_in kept.now) range.now }
+    ensures all { IfOk result (λ frags.
+        frags ≡ fragments_of (decoded T.rows) (image_of elf.now.bytes) (kept_in kept.now)) }
+    ensures may_lay { IfOk result (MayLay T.rows range.now.code range.now.stubs) }
+{
+    table_facts::<T>();
+    sized_stand_near();
     let list = fragment_list::<T>(alloc, elf, nodes, kept, edges, range.scratch)?;
-    let frags = Fragments {
+    Ok(Fragments {
         list,
         routine: Items::new(alloc),
         tables: Pairs::new(alloc),
         stubs: stub_pairs(alloc, nodes, range.stubs)?,
-    };
+    })
+}
+
+// The code of fragments that are laid out and emitted, which begins at the fragment of an address.
+fn laid_code<T: InsnTable>(
+    alloc: Global,
+    frags: Fragments,
+    range: &AddedRange,
+    entry: u64,
+) -> Result<NewCode, OutOfMemory>
+    requires { MayLay T.rows range.now.code range.now.stubs frags }
+    ensures { IfOk result (IsLaid T.rows range.now frags entry) }
+{
+    table_facts::<T>();
     let laid = layout::<T>(alloc, &frags, range.code, range.stubs)?;
     let bytes = emit::<T>(alloc, &frags, &laid)?;
     let places = places_of(alloc, frags.list.as_slice(), laid.places.as_slice())?;
-    let entry = place_beside(places.as_slice(), elf.entry);
+    let entry = place_beside(places.as_slice(), entry);
     Ok(NewCode {
         bytes,
         places,

@@ -1,11 +1,11 @@
 //! The fragments of what is kept.
 
-ghost use Rattle.std.specs.Prelude.{◌≡◌, ◌+◌, ◌^◌, ◌<◌, length, drop, All, IfOk};
+ghost use Rattle.std.specs.Prelude.{◌≡◌, ◌+◌, ◌<◌, length, drop, IfOk};
 ghost use Rattle.rz_elf.specs.Elf.{image_of};
 ghost use Rattle.rz_isa.specs.Decoded.{decoded};
 ghost use Rattle.rz_machine.specs.Nodes.{code_in};
 ghost use Rattle.rz_machine.specs.Kept.{sorted_edges};
-ghost use Rattle.rz_rewrite.specs.Fragments.{items_for, items_of, is_following as is_following_of, is_needless as is_needless_of, first_node, fragment_list as fragment_list_of, node_items, trimmed as trimmed_of};
+ghost use Rattle.rz_rewrite.specs.Fragments.{items_for, items_of, is_needless as is_needless_of, first_node, fragment_list as fragment_list_of, node_items, trimmed as trimmed_of};
 ghost use Rattle.rz_rewrite.specs.Calls.Plan.{AreMovable, CanMoveAt, IsMovable};
 
 use crate::nodes::{decoded_at, is_site};

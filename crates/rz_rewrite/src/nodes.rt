@@ -1,6 +1,6 @@
 //! What stands at the kept nodes of a file, and where the kept edges lead from them.
 
-ghost use Rattle.std.specs.Prelude.{◌≡◌, ◌==◌, length, filter, map, IfOk};
+ghost use Rattle.std.specs.Prelude.{◌≡◌, length};
 ghost use Rattle.rz_elf.specs.Elf.{image_of};
 ghost use Rattle.rz_isa.specs.Decoded.{decoded};
 ghost use Rattle.rz_isa.specs.Insn.{kind_of};

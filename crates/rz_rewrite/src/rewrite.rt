@@ -4,7 +4,7 @@ ghost use Rattle.std.specs.Prelude.{◌≡◌, ◌+◌, ◌-◌, ◌*◌, ◌≤
 ghost use Rattle.rz_image.specs.Memory.{zeros};
 ghost use Rattle.rz_elf.specs.Elf.{image_of};
 ghost use Rattle.rz_isa.specs.Decoded.{decoded};
-ghost use Rattle.rz_machine.specs.Added.{added, site_count as site_count_of, site_edge_count as site_edge_count_of};
+ghost use Rattle.rz_machine.specs.Added.{added};
 ghost use Rattle.rz_machine.specs.Keeps.{Keeps};
 ghost use Rattle.rz_machine.specs.Kept.{sorted, sorted_edges};
 ghost use Rattle.rz_machine.specs.Traced.{kept_in};

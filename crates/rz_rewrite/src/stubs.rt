@@ -1,6 +1,6 @@
 //! Stubs: what a transfer comes to that isn't kept.
 
-ghost use Rattle.std.specs.Prelude.{◌≡◌, ◌++◌, ◌+◌, ◌*◌, ◌^◌, ◌<◌, ◌≤◌, length, IfOk, OnOk};
+ghost use Rattle.std.specs.Prelude.{◌≡◌, ◌++◌, ◌+◌, ◌*◌, ◌^◌, ◌<◌, length, IfOk, OnOk};
 ghost use Rattle.rz_elf.specs.AddedRange.{all_stubs, stub_bytes, stub_size};
 ghost use Rattle.rz_rewrite.specs.Fragments.{stub_pairs as stub_pairs_of};
 

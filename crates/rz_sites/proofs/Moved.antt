@@ -17,9 +17,9 @@ use Rattle.rz_machine.specs.Keeps.{Same, AlikeEnds}
 use Rattle.rz_machine.specs.State.{step, after, perform, end_of}
 use Rattle.rz_machine.specs.Touches.{StepClear, InsnClear, WayClear}
 use Rattle.rz_machine.specs.Simulates.{InsnAt, HasCode, HasScratch, Follows}
-use Rattle.rz_machine.proofs.CodeLaws.{step_code, after_range}
-use Rattle.rz_machine.proofs.Comes.{decodes_to, step_is, Comes}
-use Rattle.rz_machine.proofs.StepLaws.{step_heap}
+use Rattle.rz_machine.specs.Laws.Code.{step_code, after_range}
+use Rattle.rz_machine.specs.Laws.Comes.{decodes_to, step_is, Comes}
+use Rattle.rz_machine.specs.Laws.Steps.{step_heap}
 use Rattle.rz_sites.proofs.Stored.{IsOpen, is_open, allowed_write}
 use Rattle.rz_sites.proofs.Steps.{now, save_insn, save_is}
 

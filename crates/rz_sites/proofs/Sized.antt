@@ -1,10 +1,8 @@
 -- What the items of a site take: each has a spelling wherever they end below 2^31.
-use Rattle.std.proofs.Common.{◌≡◌, ℕ, zero, suc, ◌+◌, ◌-◌, ◌*◌, ◌%◌, ◌^◌, ◌<◌, ◌≤◌, Bool, true, false, if◌then◌else◌, nat_le, List, [], ◌∷◌, ◌++◌, length, take, Option, Some, None, IsTrue, IsSome, IsSomeAnd, refl, sym, ap, ◌∙◌, subst, arith, append_assoc, le-leb, lt-ltb}
+use Rattle.std.proofs.Common.{◌≡◌, ℕ, zero, suc, ◌+◌, ◌*◌, ◌%◌, ◌^◌, ◌<◌, ◌≤◌, Bool, true, false, if◌then◌else◌, nat_le, List, [], ◌∷◌, ◌++◌, length, take, Option, Some, None, IsTrue, IsSome, IsSomeAnd, refl, sym, ap, ◌∙◌, subst, arith, append_assoc, le-leb, lt-ltb}
 use Rattle.std.specs.List.{AllByRecursion}
-use Rattle.std.specs.Option.{option_map}
 use Rattle.std.specs.Prelude.{ℤ, pos, negsuc, ◌-ℤ◌}
 use Rattle.std.proofs.Math.Seq.{take-append-add, take-append_seam}
-use Rattle.std.proofs.lemmas.Bool.Decides.{nat_tests}
 use Rattle.std.proofs.lemmas.Int.{ints}
 use Rattle.std.proofs.lemmas.List.{length-append}
 use Rattle.rz_num.specs.declared.width.Width.TheVariants.{W64}
@@ -22,39 +20,22 @@ use Rattle.rz_isa.specs.declared.item_list.Label.TheVariants as label
 use Rattle.rz_isa.specs.declared.item_list.Item.{Item}
 use Rattle.rz_isa.specs.declared.item_list.Item.TheVariants as item
 use Rattle.rz_isa.specs.declared.spelled.Fields.{Fields}
-use Rattle.rz_isa.specs.Canonical.{Chosen, chosen, offset, spelled_at, place_reaches}
-use Rattle.rz_isa.specs.Emitted.{HasSpelling, Emits, near, close, fits_8, fits_32, place_len, register, is_wide_operand, indirect_operand}
+use Rattle.rz_isa.specs.Canonical.{Chosen, chosen, spelled_at, place_reaches}
+use Rattle.rz_isa.specs.Emitted.{HasSpelling, Emits, fits_8, place_len, register, is_wide_operand, indirect_operand}
 use Rattle.rz_isa.specs.Fields.{build_op}
-use Rattle.rz_isa.specs.Having.{is_extended, is_disp}
+use Rattle.rz_isa.specs.Having.{is_disp}
 use Rattle.rz_isa.specs.Insn.{target_of, rip_of}
 use Rattle.rz_isa.specs.Items.{Addresses, absolute}
-use Rattle.rz_isa.specs.Plan.{spelled_len, is_inner, jump_len, IsPlaced, Reaches}
+use Rattle.rz_isa.specs.Plan.{spelled_len, IsPlaced}
 use Rattle.rz_isa.specs.Sizes.{CanMove, OfLabel, IsLow, IsOneOf, AllPlaced, near_len, near_address}
 use Rattle.rz_isa.specs.Spells.{Spells}
 use Rattle.rz_isa.specs.Targets.{NamesLow, IndirectOperands}
 use Rattle.rz_isa.specs.Within.{SpelledWithin}
+use Rattle.rz_isa.specs.Laws.NearItems.{near_low, low_fits, whole_item, jump_item, count_item}
 use Rattle.rz_encode.specs.Length.{chosen_len, ChosenLengths}
 use Rattle.rz_sites.specs.Site.{save_at, load, load_at, add_to, jump, drop, load_value, piece, check, SitesAreSized}
 
--- ---- reach between low addresses
-
-extended_low : (n t : ℕ) → n < 2 ^ 32 → t < 2 ^ 31 → n ≤ 2 ^ 31 → is_extended (2 ^ 31) (2 ^ 64) ((t + (2 ^ 64 - n)) % 2 ^ 64) ≡ true
-extended_low n t h k l = grind (arith, nat_tests)
-
-near_low : (at len t : ℕ) → at + len ≤ 2 ^ 31 → t < 2 ^ 31 → IsTrue (near at len t)
-near_low at len t h k =
-    let e : (at + len) % 2 ^ 64 ≡ at + len = omega arith in
-    ap (λ n. is_extended (2 ^ 31) (2 ^ 64) (offset n t)) e ∙ extended_low (at + len) t (omega arith) k h
-
--- over five bytes
-close_over : (at : ℕ) → at < 2 ^ 31 → IsTrue (close at 2 (at + 7))
-close_over at h =
-    let e : (at + 2) % 2 ^ 64 ≡ at + 2 = omega arith in
-    let f : (at + 7 + (2 ^ 64 - (at + 2))) % 2 ^ 64 ≡ 5 = omega arith in
-    ap (λ n. is_extended (2 ^ 7) (2 ^ 64) (offset n (at + 7))) e ∙ ap (is_extended (2 ^ 7) (2 ^ 64)) f
-
-low_fits : (n : ℕ) → n < 2 ^ 31 → IsTrue (fits_32 W64 n)
-low_fits n h = grind (arith, nat_tests)
+-- ---- displacements
 
 low_disp : (n : ℕ) → n < 2 ^ 31 → is_disp (pos n) ≡ true
 low_disp n h = lt-ltb n (2 ^ 31) h
@@ -106,10 +87,6 @@ same_len : (o : Option Chosen) → chosen_len o ≡ spelled_len o
 same_len None = refl
 same_len (Some c) = refl
 
-near_jump : (inner : Bool) → jump_len None inner Near ≡ 5
-near_jump true = refl
-near_jump false = refl
-
 module _ (rows : List Row) (emits : Emits rows) (within : SpelledWithin rows) (indirect : IndirectOperands rows) (most : ChosenLengths rows) where
   abbrev len_of : Insn → ℕ
   len_of x = spelled_len (chosen rows Near x)
@@ -134,25 +111,8 @@ module _ (rows : List Row) (emits : Emits rows) (within : SpelledWithin rows) (i
       go None h = absurd h
       go (Some c) h = refl
 
-  whole_item : (x : Insn) (at : Addresses) (from : ℕ) → IsMovable x → from + spelled_len (chosen rows Near x) < 2 ^ 31 → IsPlaced rows at from (item.Whole x) Near
-  whole_item x at from h fits = record { reach = tt; spelled = within x from h.some h.none h.low fits }
-
-  -- a jump to a label that names a low address
-  jump_item : (at : Addresses) (from : ℕ) (to : Label) → IsSomeAnd (at to) (λ p. p < 2 ^ 31) → from + 5 ≤ 2 ^ 31 → IsPlaced rows at from (item.Jump None to) Near
-  jump_item at from to low fits = record { reach = tt; spelled = go (at to) low }
-    where
-      go : (o : Option ℕ) → IsSomeAnd o (λ p. p < 2 ^ 31) → IsSomeAnd (option_map (λ t. insn.Jmp t) o) (λ x. HasSpelling rows x from Near (jump_len None (is_inner to) Near))
-      go None h = absurd h
-      go (Some t) h = subst (HasSpelling rows (insn.Jmp t) from Near) (sym (near_jump (is_inner to))) (emits.jmp t from (omega (arith, h)) (near_low from 5 t fits h))
-
-  -- over a near jump
-  count_item : (at : Addresses) (from : ℕ) (to : Label) → at to ≡ Some (from + 7) → from < 2 ^ 31 → IsPlaced rows at from (item.Jrcxz to) Near
-  count_item at from to e fits =
-      let there : Reaches (from + 2) (from + 7) = record { forward = omega arith; backward = omega arith } in
-      record {
-        reach = subst (λ o. IsSomeAnd o (Reaches (from + 2))) (sym e) there;
-        spelled = subst (λ o. IsSomeAnd (option_map (λ t. insn.Jrcxz t) o) (λ x. HasSpelling rows x from Near 2)) (sym e) (emits.jrcxz (from + 7) from (omega (arith, fits)) (close_over from fits));
-      }
+  movable_item : (x : Insn) (at : Addresses) (from : ℕ) → IsMovable x → from + spelled_len (chosen rows Near x) < 2 ^ 31 → IsPlaced rows at from (item.Whole x) Near
+  movable_item x at from h fits = whole_item rows within x at from h.some h.none h.low fits
 
   -- ---- the moves of a site
 
@@ -208,7 +168,7 @@ module _ (rows : List Row) (emits : Emits rows) (within : SpelledWithin rows) (i
   whole_placed at from (item.Whole x ∷ xs) ys h fits rest =
       let l : ℕ = spelled_len (chosen rows Near x) in
       let e : from + (l + near_len rows xs) ≡ from + l + near_len rows xs = omega arith in
-      (whole_item x at from h.0 (omega (arith, fits)), whole_placed at (from + l) xs ys h.1 (omega (arith, fits)) (subst (λ p. AllPlaced rows at p ys) e rest))
+      (movable_item x at from h.0 (omega (arith, fits)), whole_placed at (from + l) xs ys h.1 (omega (arith, fits)) (subst (λ p. AllPlaced rows at p ys) e rest))
   whole_placed at from (_ ∷ xs) ys h fits rest = absurd h.0
 
   -- ---- the check
@@ -244,17 +204,17 @@ module _ (rows : List Row) (emits : Emits rows) (within : SpelledWithin rows) (i
         → from + near_len rows front + near_len rows (check scratch a k previous ts) < 2 ^ 31
         → AllPlaced rows (near_address rows items from at) (from + near_len rows front) (check scratch a k previous ts)
     check_placed items front from at k previous [] is count below all low fits =
-        (whole_item _ _ _ back (omega (arith, fits)), (jump_item _ _ (label.Stub a) low.1.0 (omega (arith, fits)), tt))
+        (movable_item _ _ _ back (omega (arith, fits)), (jump_item rows emits _ _ (label.Stub a) low.1.0 (omega (arith, fits)), tt))
     check_placed items front from at k previous (t ∷ ts) is count below all low fits = (
-      whole_item _ names p add (omega (arith, fits)),
+      movable_item _ names p add (omega (arith, fits)),
       (
-        count_item names (p + l1) (label.Item (k + 3)) over (omega (arith, fits)),
+        count_item rows emits names (p + l1) (label.Item (k + 3)) over (omega (arith, fits)),
         (
-          jump_item names (p + l1 + 2) (label.Item (k + 5)) (subst (λ o. IsSomeAnd o (λ q. q < 2 ^ 31)) (sym next) next_low) (omega (arith, fits)),
+          jump_item rows emits names (p + l1 + 2) (label.Item (k + 5)) (subst (λ o. IsSomeAnd o (λ q. q < 2 ^ 31)) (sym next) next_low) (omega (arith, fits)),
           (
-            whole_item _ names (p + l1 + 2 + 5) back (omega (arith, fits)),
+            movable_item _ names (p + l1 + 2 + 5) back (omega (arith, fits)),
             (
-              jump_item names (p + l1 + 2 + 5 + l4) (label.Place t) low.1.1.1.1.0 (omega (arith, fits)),
+              jump_item rows emits names (p + l1 + 2 + 5 + l4) (label.Place t) low.1.1.1.1.0 (omega (arith, fits)),
               subst (λ q. AllPlaced rows names q tail) behind (check_placed items (front ++ mid) from at (k + 5) t ts again longer all.0 all.1 low.1.1.1.1.1 (omega (arith, fits, sum))),
             ),
           ),

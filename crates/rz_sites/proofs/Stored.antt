@@ -7,7 +7,7 @@ use Rattle.rz_image.specs.Memory.{Cell, Regions, Range, Alike, SameCell, SamePer
 use Rattle.rz_image.specs.Laws.Puts.{cell_at-put_same, cell_at-put_other}
 use Rattle.rz_exec.specs.Form.{WordAt, allowed, read_word}
 use Rattle.rz_machine.specs.Simulates.{HasScratch}
-use Rattle.rz_machine.proofs.CodeLaws.{perms_put}
+use Rattle.rz_machine.specs.Laws.Code.{perms_put}
 
 -- the word of 64 bits at an address
 abbrev pub word : ℕ → Option WordAt

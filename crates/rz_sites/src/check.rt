@@ -1,6 +1,6 @@
 // The check of a value in RCX.
 
-ghost use Rattle.std.specs.Prelude.{◌≡◌, ℤ, pos, ◌+◌, ◌*◌, ◌^◌, ◌<◌, ◌-ℤ◌, length, ◌++◌, OnOk};
+ghost use Rattle.std.specs.Prelude.{◌≡◌, pos, ◌+◌, ◌*◌, ◌^◌, ◌<◌, ◌-ℤ◌, length, ◌++◌, OnOk};
 ghost use Rattle.std.specs.List.{AllByRecursion};
 ghost use Rattle.rz_sites.specs.Site.{piece, check as check_of};
 

@@ -7,6 +7,3 @@ pub mod laws;
 mod moves;
 
 pub use items::site;
-
-#[cfg(test)]
-mod tests;

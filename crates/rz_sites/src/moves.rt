@@ -1,6 +1,6 @@
 // Items that move RCX, and the jump.
 
-ghost use Rattle.std.specs.Prelude.{◌≡◌, ℤ, pos, ◌^◌, ◌<◌};
+ghost use Rattle.std.specs.Prelude.{◌≡◌, ◌^◌, ◌<◌};
 ghost use Rattle.rz_isa.specs.declared.instruction.Place.TheVariants as places;
 ghost use Rattle.rz_isa.specs.Emitted.{register};
 ghost use Rattle.rz_isa.specs.Items.{absolute as absolute_at};

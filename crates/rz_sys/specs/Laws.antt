@@ -1,3 +1,4 @@
+-- Lemmas that other crates cite.
 pub mod Heap
 pub mod Answers
 pub mod Alike

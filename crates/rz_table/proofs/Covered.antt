@@ -7,8 +7,8 @@ use Rattle.rz_isa.specs.declared.rows.Row.{Row}
 use Rattle.rz_isa.specs.Index.{is_listed, ListsOpcode}
 use Rattle.rz_isa.specs.Spelling.{opcode_fits}
 use Rattle.rz_isa.specs.Table.{each_from, same_map}
-use Rattle.rz_isa.proofs.Exclusion.{each_from_at}
-use Rattle.rz_isa.proofs.Tests.{and_parts}
+use Rattle.rz_isa.specs.Laws.Exclusion.{each_from_at}
+use Rattle.rz_isa.specs.Laws.Tests.{and_parts}
 use Rattle.rz_table.specs.Index.{cell, opcode_place, covers}
 
 -- ---- an index that covers the rows lists them

@@ -1,1 +1,2 @@
+-- Lemmas that other crates cite.
 pub mod ProfileEmits

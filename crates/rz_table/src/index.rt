@@ -1,4 +1,4 @@
-ghost use Rattle.std.specs.Prelude.{◌≡◌, ◌<◌, ◌+◌, ◌≤◌, length, take, drop};
+ghost use Rattle.std.specs.Prelude.{◌≡◌, ◌<◌, ◌+◌, length, take, drop};
 ghost use Rattle.rz_isa.specs.Class.{class_place as place_among};
 ghost use Rattle.rz_table.specs.Index.{cell as cell_at, opcode_place as place_of};
 

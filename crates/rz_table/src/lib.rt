@@ -56,6 +56,3 @@ mod profile_index;
 mod profile_rows;
 
 pub use profile::Profile1;
-
-#[cfg(test)]
-mod tests;

@@ -1,4 +1,0 @@
-pub mod LineLaws
-pub mod NumberLaws
-pub mod Places
-pub mod Reading

@@ -2,3 +2,4 @@ pub mod Calls
 pub mod Fault
 pub mod Lines
 pub mod Number
+pub mod Laws

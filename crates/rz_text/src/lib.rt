@@ -6,6 +6,3 @@ mod number;
 
 pub use line::{Lines, TEXT_MAX, has_content, word};
 pub use number::{decimal, hexadecimal};
-
-#[cfg(test)]
-mod tests;

@@ -1,8 +1,7 @@
 // Numbers in words.
 
-ghost use Rattle.std.specs.Prelude.{◌≡◌, ◌<◌, ◌≤◌, ◌^◌, length};
+ghost use Rattle.std.specs.Prelude.{◌≡◌, ◌<◌, ◌≤◌};
 ghost use Rattle.std.specs.Option.{SomeIff};
-ghost use Rattle.std.specs.Char.{digit_value};
 ghost use Rattle.std.specs.Str.Parse.{digits_value, AllDigits};
 ghost use Rattle.rz_text.specs.Calls.Digits.{HasValue};
 ghost use Rattle.rz_text.specs.Number.{decimal, decimal_has, hexadecimal, hexadecimal_has, wrong_place};

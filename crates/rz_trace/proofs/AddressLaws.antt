@@ -8,7 +8,7 @@ use Rattle.std.proofs.lemmas.Bool.{cases_lt, lt-ltb}
 use Rattle.std.proofs.lemmas.Fmt.{digits_is_IsNumeral}
 use Rattle.std.proofs.lemmas.List.FromFn.{length-enumerate_from, get_or-enumerate_from}
 use Rattle.rz_text.specs.Number.{hexadecimal, hexadecimal_has, wrong_place}
-use Rattle.rz_text.proofs.Places.{position-absent}
+use Rattle.rz_text.specs.Laws.Places.{position-absent}
 use Rattle.rz_trace.specs.Grammar.{address_of, is_small}
 use Rattle.rz_trace.specs.Printed.{address_word}
 

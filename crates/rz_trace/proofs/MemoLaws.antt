@@ -3,7 +3,7 @@ use Rattle.std.proofs.Common.{◌≡◌, ℕ, Bool, true, false, ◌&&◌, ◌||
 use Rattle.std.proofs.lemmas.Bool.{or_left, or_right}
 use Rattle.rz_aset.specs.Sets.{with_address}
 use Rattle.rz_machine.specs.Kept.{Kept, Edges, has_node, has_edge, with_edges}
-use Rattle.rz_machine.proofs.SetLaws.{has_node-with_nodes, has_edge-with_edges}
+use Rattle.rz_machine.specs.Laws.Sets.{has_node-with_nodes, has_edge-with_edges}
 use Rattle.rz_trace.specs.declared.memo.Edge.{Edge}
 use Rattle.rz_trace.specs.declared.memo.Memo.{Memo}
 use Rattle.rz_trace.specs.Calls.Begun.{edge_from, with_begun}

@@ -7,7 +7,7 @@ use Rattle.std.proofs.lemmas.Bool.{le-ltb}
 use Rattle.std.proofs.lemmas.List.Folds.{list_any-append}
 use Rattle.rz_text.specs.Lines.{Line, lines, lines_from}
 use Rattle.rz_text.specs.Fault.{first_fault}
-use Rattle.rz_text.proofs.LineLaws.{lines-ended}
+use Rattle.rz_text.specs.Laws.Lines.{lines-ended}
 use Rattle.rz_aset.specs.declared.kept.Record.{Record}
 use Rattle.rz_aset.specs.Sets.{edge_cmp, has, has_edge, is_same_edge, with_address, with_edge}
 use Rattle.rz_trace.specs.declared.entry.Entry.{Entry}
@@ -22,7 +22,7 @@ use Rattle.std.specs.Prelude.{slice_index}
 use Rattle.std.proofs.lemmas.List.Sorted.{list_any-IsPermutation, All-permutation}
 use Rattle.std.proofs.lemmas.List.Elements.{recursion_from_All, All-from_recursion}
 use Rattle.std.proofs.lemmas.Map.Keys.{IsDistinct-IsPermutation}
-use Rattle.rz_aset.proofs.Members.{All_at}
+use Rattle.rz_aset.specs.Laws.Places.{All_at}
 use Rattle.rz_trace.proofs.Readable.{IsPrintable, entry_of-line, no_end-line}
 
 -- each entry fits behind those before it, and together they make a record

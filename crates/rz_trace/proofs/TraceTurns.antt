@@ -16,8 +16,8 @@ use Rattle.rz_machine.specs.LeftCode.{left_at, LeavesCode, StaysInCode}
 use Rattle.rz_machine.specs.Traced.{with_run}
 use Rattle.rz_trace.specs.Traced.{HasPart, IsRefused}
 use Rattle.rz_trace.specs.Calls.Begun.{edge_from, with_begun}
-use Rattle.rz_machine.proofs.TraceLaws.{begins, begins_nothing, begun_none}
-use Rattle.rz_machine.proofs.RecordedLaws.{after_suc, ended_later}
+use Rattle.rz_machine.specs.Laws.Trace.{begins, begins_nothing, begun_none}
+use Rattle.rz_machine.specs.Laws.Recorded.{after_suc, ended_later}
 
 -- the instruction begun last
 abbrev pub last_of : List ℕ → Option ℕ

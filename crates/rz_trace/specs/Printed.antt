@@ -1,11 +1,11 @@
 -- The text of a record: the first line, the nodes and then the edges in ascending order, the last line.
-use Rattle.std.specs.Prelude.{◌≡◌, ℕ, false, List, [], ◌∷◌, ◌++◌, codes, flat_map, map, IsSorted, ◌≤◌, length, true, All, None}
+use Rattle.std.specs.Prelude.{◌≡◌, ℕ, List, [], ◌∷◌, ◌++◌, codes, flat_map, map, IsSorted, ◌≤◌, length, true, All, None}
 use Rattle.std.specs.Ordering.{nat_cmp}
 use Rattle.std.specs.List.{join_with_byte}
+use Rattle.rz_num.specs.Texts.{hex_text}
 use Rattle.rz_trace.specs.Fault.{fault_of}
 use Rattle.rz_trace.specs.Value.{record_of}
 use Rattle.std.specs.List.Sorted.{IsPermutation}
-use Rattle.std.specs.Fmt.{digits}
 use Rattle.rz_aset.specs.declared.kept.Record.{Record}
 use Rattle.rz_aset.specs.Sets.{edge_cmp, has}
 use Rattle.rz_machine.specs.Kept.{Kept, sorted, sorted_edges}
@@ -14,7 +14,7 @@ use Rattle.rz_trace.specs.declared.entry.Entry.TheVariants.{Begin, Node, Edge, E
 
 -- an address: `0x` and lower-case digits without leading zeros
 abbrev pub address_word : ℕ → List ℕ
-address_word at = codes "0x" ++ digits 16 false at
+address_word at = hex_text at
 
 -- the words that say an entry
 abbrev pub entry_words : Entry → List (List ℕ)

@@ -13,8 +13,3 @@ pub use error::TraceFault;
 pub use printer::print_trace;
 pub use reader::read_trace;
 pub use tracer::{TraceRefusal, trace};
-
-#[cfg(test)]
-mod tests;
-#[cfg(test)]
-mod tracer_tests;

@@ -1,13 +1,14 @@
--- Sorted sets: their members, their order, and that a sort of distinct members gives them.
-use Rattle.std.proofs.Common.{◌≡◌, ℕ, zero, suc, ◌+◌, ◌<◌, Bool, true, false, cond, ◌&&◌, ◌||◌, nat_lt, ◌==◌, List, [], ◌∷◌, fold, refl, ap, ap₂, sym, ◌∙◌, subst, arith, eq-eqb, eqb-true, ltb-true, append_assoc, ◌++◌, length, get_or, nat_eq, true≢false}
+-- Sorted sets: their members, their order, that a sort of distinct members gives them, and that their members fix them.
+use Rattle.std.proofs.Common.{◌≡◌, ℕ, ◌+◌, ◌<◌, Bool, true, false, cond, ◌&&◌, ◌||◌, nat_lt, ◌==◌, List, [], ◌∷◌, fold, refl, ap, ap₂, sym, ◌∙◌, subst, arith, eq-eqb, eqb-true, ltb-true, append_assoc, ◌++◌, length, get_or, nat_eq, true≢false}
 use Rattle.std.proofs.lemmas.List.{append-nil}
 use Rattle.std.proofs.lemmas.Bool.{lt-ltb}
 use Rattle.std.specs.declared.cmp.Ordering.{Ordering}
 use Rattle.std.specs.declared.cmp.Ordering.TheVariants.{Less, Equal, Greater}
 use Rattle.std.specs.Cmp.{IsTotalOrder, nat_cmp_total, then_total, on_total}
-use Rattle.std.specs.Ordering.{nat_cmp, ordering_then, ordering_reverse, match_ordering, is_lt}
+use Rattle.std.specs.Ordering.{nat_cmp, ordering_then, ordering_reverse, match_ordering, is_eq, is_lt}
 use Rattle.std.specs.List.{list_any, AllByRecursion, IsDistinct}
 use Rattle.std.specs.List.Sorted.{IsStrictlySortedBy, IsSorted, IsPermutation}
+use Rattle.std.specs.BTreeMap.{is_at}
 use Rattle.std.specs.BTreeSet.{insert_key, BTreeSet}
 use Rattle.std.proofs.lemmas.List.Sorted.{list_any-IsPermutation}
 use Rattle.std.proofs.lemmas.Map.Keys.{sorted_from_all_adjacent, apart_from_distinct, IsDistinct-IsPermutation}
@@ -188,6 +189,10 @@ module _ {K : Type 0} (cmp : K → K → Ordering) (total : IsTotalOrder cmp) (e
   strict_with_all set [] h = h
   strict_with_all set (x ∷ xs) h = strict_with_all (insert_key cmp set x) xs (strict_with set x h)
 
+  strict : (xs : List K) → IsStrictlySortedBy cmp (fold (insert_key cmp) [] xs)
+  unfolding IsStrictlySortedBy
+  strict xs = strict_with_all [] xs tt
+
   -- a sort of members of which no two compare equal
   strict_from_sort : (eq : K → K → Bool) → ((x y : K) → eq x y ≡ false → cmp x y ≡ Equal → ⊥) → (xs : List K) → IsSorted cmp xs → IsDistinct eq xs → IsStrictlySortedBy cmp xs
   unfolding IsStrictlySortedBy
@@ -210,12 +215,11 @@ module _ {K : Type 0} (cmp : K → K → Ordering) (total : IsTotalOrder cmp) (e
 
   -- two sorted lists with the same members
   sort_is : (xs ys : List K) → IsPermutation xs ys → IsStrictlySortedBy cmp ys → ys ≡ fold (insert_key cmp) [] xs
-  unfolding IsStrictlySortedBy
   sort_is xs ys p s =
       let set : List K = fold (insert_key cmp) [] xs in
       let a : BTreeSet K = record { keys = ys } in
       let b : BTreeSet K = record { keys = set } in
-      btree_set_from_contains total a b s (strict_with_all [] xs tt)
+      btree_set_from_contains total a b s (strict xs)
       (λ q. sym (list_any-IsPermutation _ xs ys p) ∙ sym (list_any-insert_keys cmp exact _ [] xs)) exact
 
 address_apart : (x y : ℕ) → nat_eq x y ≡ false → nat_cmp x y ≡ Equal → ⊥
@@ -253,3 +257,48 @@ sorted_edges_by_sort xs ys d p s =
 
     flips : (x y : ℕ × ℕ) → is_same_edge x y ≡ is_same_edge y x
     flips x y = ap₂ (λ a b. a && b) (each x.0 y.0) (each x.1 y.1)
+
+-- ---- sets with the same members have the same ascending lists
+
+-- ascending lists are equal where a test that finds each key finds the same in both
+same_keys : {K : Type 0} (cmp : K → K → Ordering) → IsTotalOrder cmp → CmpEqualImpliesEq cmp → (test : K → K → Bool) → ((q k : K) → is_at (cmp q) k ≡ test k q) → (xs ys : List K)
+    → IsStrictlySortedBy cmp xs → IsStrictlySortedBy cmp ys → ((q : K) → list_any (λ k. test k q) xs ≡ list_any (λ k. test k q) ys) → xs ≡ ys
+same_keys {K} cmp total exact test tells xs ys sx sy same =
+    let a : BTreeSet K = record { keys = xs } in
+    let b : BTreeSet K = record { keys = ys } in
+    btree_set_from_contains total a b sx sy (λ q. at_keys q xs ∙ same q ∙ sym (at_keys q ys)) exact
+  where
+    at_keys : (q : K) (zs : List K) → list_any (is_at (cmp q)) zs ≡ list_any (λ k. test k q) zs
+    at_keys q [] = refl
+    at_keys q (z ∷ zs) = ap₂ (λ x y. x || y) (tells q z) (at_keys q zs)
+
+address_tells : (q k : ℕ) → is_eq (nat_cmp q k) ≡ (k == q)
+address_tells q k = go (nat_lt q k) (q == k) refl refl
+  where
+    go : (p r : Bool) → nat_lt q k ≡ p → (q == k) ≡ r → is_eq (cond p Less (cond r Equal Greater)) ≡ (k == q)
+    go true r d e = let lt = ltb-true q k d in grind arith
+    go false true d e = let same = eqb-true q k e in sym (eq-eqb k q (sym same))
+    go false false d e = grind arith
+
+pub sorted_same : (xs ys : List ℕ) → ((a : ℕ) → has xs a ≡ has ys a) → sorted xs ≡ sorted ys
+unfolding sorted
+sorted_same xs ys same =
+    same_keys nat_cmp nat_cmp_total exact_unsigned (λ k q. k == q) address_tells (sorted xs) (sorted ys)
+    (strict nat_cmp nat_cmp_total exact_unsigned xs) (strict nat_cmp nat_cmp_total exact_unsigned ys)
+    (λ q. has-sorted xs q ∙ same q ∙ sym (has-sorted ys q))
+
+then_tells : (r s : Ordering) → is_eq (ordering_then r s) ≡ (is_eq r && is_eq s)
+then_tells Less s = refl
+then_tells Equal s = refl
+then_tells Greater s = refl
+
+edge_tells : (q k : ℕ × ℕ) → is_eq (edge_cmp q k) ≡ is_same_edge k q
+edge_tells q k = then_tells (nat_cmp q.0 k.0) (nat_cmp q.1 k.1) ∙ ap₂ (λ x y. x && y) (address_tells q.0 k.0) (address_tells q.1 k.1)
+
+-- the same of edges
+pub sorted_edges_same : (xs ys : List (ℕ × ℕ)) → ((e : ℕ × ℕ) → has_edge xs e ≡ has_edge ys e) → sorted_edges xs ≡ sorted_edges ys
+unfolding sorted_edges
+sorted_edges_same xs ys same =
+    same_keys edge_cmp edge_total edge_exact is_same_edge edge_tells (sorted_edges xs) (sorted_edges ys)
+    (strict edge_cmp edge_total edge_exact xs) (strict edge_cmp edge_total edge_exact ys)
+    (λ q. has_edge-sorted xs q ∙ same q ∙ sym (has_edge-sorted ys q))

@@ -11,7 +11,7 @@ use Rattle.rz_isa.specs.declared.instruction.Place.TheVariants as places
 use Rattle.rz_isa.specs.declared.instruction.Operand.TheVariants as operands
 use Rattle.rz_isa.specs.declared.instruction.Count.TheVariants as counts
 use Rattle.rz_isa.specs.Emitted.{Emits, EmitsLookup, has_lookup, register}
-use Rattle.rz_isa.proofs.Served.{emits_load, emits_store, emits_store_imm, emits_load_32, emits_mov, emits_lea, emits_push, emits_push_byte, emits_push_imm, emits_pop, emits_jcc, emits_jcc_short, emits_jrcxz, emits_jmp, emits_jmp_short, emits_bare, emits_bytes, lone_row, Serves, ServesBut, each_double, each_arith, arith_row, arith_load_row, arith_byte_row, arith_imm_row, shr_once_row, shr_once_byte_row, shr_row, emits_arith, emits_arith_load, emits_arith_store, emits_arith_byte, emits_arith_imm, emits_shr_once, emits_shr, emits_jmp_ind}
+use Rattle.rz_isa.specs.Laws.Served.{emits_load, emits_store, emits_store_imm, emits_load_32, emits_mov, emits_lea, emits_push, emits_push_byte, emits_push_imm, emits_pop, emits_jcc, emits_jcc_short, emits_jrcxz, emits_jmp, emits_jmp_short, emits_bare, emits_bytes, lone_row, Serves, ServesBut, each_double, each_arith, arith_row, arith_load_row, arith_byte_row, arith_imm_row, shr_once_row, shr_once_byte_row, shr_row, emits_arith, emits_arith_load, emits_arith_store, emits_arith_byte, emits_arith_imm, emits_shr_once, emits_shr, emits_jmp_ind}
 use Rattle.rz_table.specs.declared.profile_rows.TheConstants.{PROFILE}
 
 -- Profile 1 emits what it must, and what the lookup routine is made of.

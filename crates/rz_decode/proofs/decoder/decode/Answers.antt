@@ -1,5 +1,5 @@
 use Rattle.std.proofs.Common.{arith}
-use Rattle.rz_decode.proofs.Exactness.{exact_of}
+use Rattle.rz_decode.specs.Laws.Exactness.{exact_of}
 use Rattle.rz_decode.proofs.Rows.{bytes_from, cut_decides}
 use Rattle.rz_decode.proofs.decoder.decode.Goals as goal
 

@@ -1,4 +1,4 @@
-use Rattle.rz_decode.proofs.Exactness.{decodes_exactly, fifteen_law}
+use Rattle.rz_decode.specs.Laws.Exactness.{decodes_exactly, fifteen_law}
 use Rattle.rz_decode.proofs.laws.decoded_laws.Goals as goal
 
 pub returns-clause-exact : goal.returns-clause-exact

@@ -19,4 +19,4 @@ page_of old first second end segment size a b c d =
 
 pub returns : goal.returns
 returns c =
-    page_of _ _ _ _ c.code_segment.result c.args.size c.in_ok-push_file_header.ensures c.code_segment.ensures c.in_ok-push_segment.ensures c.in_ok-push_filling.ensures
+    page_of _ _ _ _ c.code_segment.result c.args.size c.in_ok-push_file_header.ensures c.code_segment.ensures c.in_ok-push.ensures c.in_ok-push_filling.ensures

@@ -6,7 +6,7 @@ use Rattle.rz_isa.specs.declared.spelled.Fields.{Fields}
 use Rattle.rz_isa.specs.Finding.{found}
 use Rattle.rz_isa.specs.Regular.{is_regular}
 use Rattle.rz_isa.specs.Spells.{Builds, NoneBuilds}
-use Rattle.rz_isa.proofs.Choice.{found_builds, none_builds}
+use Rattle.rz_isa.specs.Laws.Choice.{found_builds, none_builds}
 use Rattle.rz_isa.proofs.find.fields_of.Goals as goal
 
 when_some : (row : Row) (x : Insn) (o : Option Fields) → is_regular row ≡ true → o ≡ found row x → IfSome o (Builds row x)

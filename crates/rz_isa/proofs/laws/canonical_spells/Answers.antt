@@ -1,4 +1,4 @@
-use Rattle.rz_isa.proofs.Choice.{canonical_spells}
+use Rattle.rz_isa.specs.Laws.Choice.{canonical_spells}
 use Rattle.rz_isa.proofs.laws.canonical_spells.Goals as goal
 
 pub returns : goal.returns

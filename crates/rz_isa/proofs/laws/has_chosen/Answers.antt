@@ -1,4 +1,4 @@
-use Rattle.rz_isa.proofs.Choice.{has_chosen}
+use Rattle.rz_isa.specs.Laws.Choice.{has_chosen}
 use Rattle.rz_isa.proofs.laws.has_chosen.Goals as goal
 
 pub returns : goal.returns

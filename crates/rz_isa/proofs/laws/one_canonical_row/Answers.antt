@@ -1,4 +1,4 @@
-use Rattle.rz_isa.proofs.Choice.{one_canonical_row}
+use Rattle.rz_isa.specs.Laws.Choice.{one_canonical_row}
 use Rattle.rz_isa.proofs.laws.one_canonical_row.Goals as goal
 
 pub returns : goal.returns

@@ -1,4 +1,4 @@
-use Rattle.rz_isa.proofs.OneRow.{one_row}
+use Rattle.rz_isa.specs.Laws.OneRow.{one_row}
 use Rattle.rz_isa.proofs.laws.one_row.Goals as goal
 
 pub returns : goal.returns

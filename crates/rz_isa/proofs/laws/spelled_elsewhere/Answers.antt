@@ -1,4 +1,4 @@
-use Rattle.rz_isa.proofs.Elsewhere.{spelled_elsewhere}
+use Rattle.rz_isa.specs.Laws.Elsewhere.{spelled_elsewhere}
 use Rattle.rz_isa.proofs.laws.spelled_elsewhere.Goals as goal
 
 pub returns : goal.returns

@@ -1,4 +1,4 @@
-use Rattle.rz_isa.proofs.Targeted.{rip_targets, direct_targets, indirect_operands}
+use Rattle.rz_isa.specs.Laws.Targeted.{rip_targets, direct_targets, indirect_operands}
 use Rattle.rz_isa.proofs.laws.targets.Goals as goal
 
 pub returns-clause-rip : goal.returns-clause-rip

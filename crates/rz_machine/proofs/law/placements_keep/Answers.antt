@@ -1,5 +1,5 @@
 use Rattle.rz_isa.specs.Decoded.{decoded}
-use Rattle.rz_machine.proofs.PlacedRuns.{placements_keep}
+use Rattle.rz_machine.specs.Laws.PlacedRuns.{placements_keep}
 use Rattle.rz_machine.proofs.law.placements_keep.Goals as goal
 
 pub returns : goal.returns

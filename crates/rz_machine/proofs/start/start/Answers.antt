@@ -1,10 +1,10 @@
-use Rattle.std.proofs.Common.{◌≡◌, ℕ, ◌^◌, List, None, [], ◌∷◌, ◌++◌, length, set, replicate, append_assoc, ap, subst, ◌∙◌, arith}
+use Rattle.std.proofs.Common.{◌≡◌, ℕ, ◌^◌, List, None, [], ◌∷◌, length, set, replicate, append_assoc, ap, subst, ◌∙◌, arith}
 use Rattle.rz_image.specs.declared.region.Region.{Region}
 use Rattle.rz_image.specs.Perm.{read_write}
 use Rattle.rz_elf.specs.Loaded.{ElfFile, IsRead, loaded}
 use Rattle.rz_machine.specs.declared.machine.Machine.{Machine}
 use Rattle.rz_machine.specs.Start.{first_regs, first_rsp, stack_base, stack_bytes, stack_region, heap_region, no_flags}
-use Rattle.rz_machine.proofs.StartHeap.{begun_heap, read_room}
+use Rattle.rz_machine.specs.Laws.StartHeap.{begun_heap, read_room}
 use Rattle.rz_machine.proofs.StartRegions.{start_ascends, few_loads, two_behind}
 use Rattle.rz_machine.proofs.start.start.Goals as goal
 

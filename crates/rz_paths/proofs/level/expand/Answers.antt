@@ -2,8 +2,8 @@ use Rattle.std.proofs.lemmas.Result.{IfOk-weaker}
 use Rattle.rz_elf.specs.Elf.{image_of}
 use Rattle.rz_aset.specs.Sets.{has}
 use Rattle.rz_paths.specs.Program.{program_of}
-use Rattle.rz_paths.proofs.PlausibleLemmas.{plausible_kept, stands_sound}
-use Rattle.rz_paths.proofs.Growing.{keeps_same, levels_grow, recorded_within}
+use Rattle.rz_paths.specs.Laws.Plausible.{plausible_kept, stands_sound}
+use Rattle.rz_paths.specs.Laws.Growing.{keeps_same, levels_grow, recorded_within}
 use Rattle.rz_paths.proofs.level.expand.Goals as goal
 
 pub expand_in-requires : goal.expand_in-requires

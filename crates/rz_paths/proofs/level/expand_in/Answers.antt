@@ -1,4 +1,4 @@
-use Rattle.rz_paths.proofs.PlausibleLemmas.{recorded_kept}
+use Rattle.rz_paths.specs.Laws.Plausible.{recorded_kept}
 use Rattle.rz_paths.proofs.level.expand_in.Goals as goal
 
 pub level_edges-requires-clause-kept : goal.level_edges-requires-clause-kept

@@ -1,4 +1,4 @@
-use Rattle.rz_paths.proofs.PlausibleLemmas.{sound_joined}
+use Rattle.rz_paths.specs.Laws.Plausible.{sound_joined}
 use Rattle.rz_paths.proofs.level.level_edges.Goals as goal
 
 pub kept_edges-requires : goal.kept_edges-requires

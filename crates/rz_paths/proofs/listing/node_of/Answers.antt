@@ -1,5 +1,5 @@
 use Rattle.std.proofs.Common.{refl}
-use Rattle.rz_paths.proofs.ListingLemmas.{program_is}
+use Rattle.rz_paths.specs.Laws.Listing.{program_is}
 use Rattle.rz_paths.proofs.listing.node_of.Goals as goal
 
 pub returns-in-Insn : goal.returns-in-Insn

@@ -1,5 +1,5 @@
 use Rattle.std.proofs.Common.{ap, ◌∙◌, is_some, ◌==◌}
-use Rattle.rz_paths.proofs.PassingLemmas.{is_some-position}
+use Rattle.rz_paths.specs.Laws.Passing.{is_some-position}
 use Rattle.rz_paths.proofs.passing.is_start.Goals as goal
 
 pub returns : goal.returns

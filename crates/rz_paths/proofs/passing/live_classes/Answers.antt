@@ -1,6 +1,6 @@
 use Rattle.std.proofs.Common.{sym, ◌∙◌}
 use Rattle.rz_paths.specs.Calls.Noted.{is_noted}
-use Rattle.rz_paths.proofs.PassingLemmas.{class_noted, class_left}
+use Rattle.rz_paths.specs.Laws.Passing.{class_noted, class_left}
 use Rattle.rz_paths.proofs.passing.live_classes.Goals as goal
 use Rattle.rz_paths.proofs.passing.live_classes.Goals.{then-contains+in_ok-note, else-contains}
 

@@ -1,6 +1,6 @@
 use Rattle.std.proofs.Common.{◌≡◌, take, sym, ◌∙◌, arith}
 use Rattle.std.proofs.lemmas.List.{take_all}
-use Rattle.rz_paths.proofs.PassingLemmas.{start_added, start_left}
+use Rattle.rz_paths.specs.Laws.Passing.{start_added, start_left}
 use Rattle.rz_paths.proofs.passing.live_starts.Goals as goal
 use Rattle.rz_paths.proofs.passing.live_starts.Goals.{then-is_noted+in_ok-add, else-is_noted}
 

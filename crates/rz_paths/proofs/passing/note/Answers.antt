@@ -1,4 +1,4 @@
-use Rattle.rz_paths.proofs.PassingLemmas.{noted_more}
+use Rattle.rz_paths.specs.Laws.Passing.{noted_more}
 use Rattle.rz_paths.proofs.passing.note.Goals as goal
 
 pub returns : goal.returns

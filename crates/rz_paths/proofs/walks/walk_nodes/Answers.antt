@@ -4,7 +4,7 @@ use Rattle.std.proofs.lemmas.Result.{IfOk-weaker}
 use Rattle.rz_aset.specs.Sets.{has}
 use Rattle.rz_paths.specs.Sets.{In, Reached, joins}
 use Rattle.rz_paths.specs.Walks.{ends}
-use Rattle.rz_paths.proofs.Booleans.{and_left}
+use Rattle.rz_paths.specs.Laws.Booleans.{and_left}
 use Rattle.rz_paths.proofs.FlowLemmas.{reaches_to}
 use Rattle.rz_paths.proofs.WalkLemmas.{marked_are_walks, walk_leads}
 use Rattle.rz_paths.proofs.walks.walk_nodes.Goals as goal

@@ -3,7 +3,7 @@ use Rattle.rz_isa.specs.Decoded.{decoded}
 use Rattle.rz_machine.specs.MachineState.{MachineState}
 use Rattle.rz_machine.specs.Calls.Cache.{Serves}
 use Rattle.rz_machine.specs.State.{step, after}
-use Rattle.rz_machine.proofs.RunTurns.{after-next}
+use Rattle.rz_machine.specs.Laws.RunTurns.{after-next}
 use Rattle.rz_replay.specs.Verdict.{is_decided}
 use Rattle.rz_replay.proofs.VerdictLaws.{IsOpen-none, IsOpen-more, decided_here, never_decided}
 use Rattle.rz_replay.proofs.compare.run_until_decided.Goals as goal

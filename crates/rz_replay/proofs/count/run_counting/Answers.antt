@@ -4,7 +4,7 @@ use Rattle.rz_machine.specs.declared.machine.Machine.{Machine}
 use Rattle.rz_machine.specs.MachineState.{MachineState}
 use Rattle.rz_machine.specs.Calls.Cache.{Serves}
 use Rattle.rz_machine.specs.State.{step, after}
-use Rattle.rz_machine.proofs.RunTurns.{after-next, after-long}
+use Rattle.rz_machine.specs.Laws.RunTurns.{after-next, after-long}
 use Rattle.rz_replay.proofs.CountLaws.{RunsOn-none, RunsOn-more, ended_after, never_ended}
 use Rattle.rz_replay.proofs.count.run_counting.Goals as goal
 

@@ -1,6 +1,6 @@
 use Rattle.std.proofs.Common.{◌≡◌, ℕ, List, [], ◌∷◌, ◌++◌, length, get_or, append-nil, rules, arith, refl, sym, ap, ◌∙◌, subst}
 use Rattle.std.specs.Prelude.{string_bytes, IfOk, flat_map}
-use Rattle.rz_replay.specs.RunText.{hex_text}
+use Rattle.rz_num.specs.Texts.{hex_text}
 use Rattle.rz_replay.proofs.run_text.arguments_text.Goals as goal
 
 three : (xs : List ℕ) → length xs ≡ 3 → xs ≡ get_or xs 0 0 ∷ get_or xs 1 0 ∷ get_or xs 2 0 ∷ []

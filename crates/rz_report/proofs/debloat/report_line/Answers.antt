@@ -3,7 +3,7 @@ use Rattle.std.proofs.lemmas.Result.{IfOk-weaker}
 use Rattle.serde_json.specs.Data.{string, number, unsigned, object, member, no_members}
 use Rattle.serde_json.specs.View.{view}
 use Rattle.serde_json.specs.Written.{compact_text, has_float}
-use Rattle.rz_report.specs.Report.{hex_text}
+use Rattle.rz_num.specs.Texts.{hex_text}
 use Rattle.rz_report.proofs.JsonTexts.{report_written}
 use Rattle.rz_report.proofs.debloat.report_line.Goals as goal
 

@@ -9,7 +9,8 @@ use Rattle.rz_machine.specs.Kept.{Kept}
 use Rattle.rz_machine.specs.Traced.{kept_in}
 use Rattle.rz_rewrite.specs.Refusals.{size_for}
 use Rattle.rz_rewrite.proofs.Planned.{plain_read, heap_read}
-use Rattle.rz_rewrite.proofs.RewriteLaws.{reach_is, room_is, range_is, planned}
+use Rattle.rz_rewrite.specs.Laws.Measured.{reach_is, room_is, range_is}
+use Rattle.rz_rewrite.proofs.RewriteLaws.{planned}
 use Rattle.rz_rewrite.proofs.rewrite.rewrite.Goals as goal
 
 pub write_new-requires-clause-nodes : goal.write_new-requires-clause-nodes

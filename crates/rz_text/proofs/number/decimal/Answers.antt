@@ -1,5 +1,5 @@
 use Rattle.std.proofs.Common.{sym}
-use Rattle.rz_text.proofs.NumberLaws.{decimal_digits}
+use Rattle.rz_text.specs.Laws.Numbers.{decimal_digits}
 use Rattle.rz_text.proofs.number.decimal.Goals as goal
 
 pub value-requires-clause-digits : goal.value-requires-clause-digits

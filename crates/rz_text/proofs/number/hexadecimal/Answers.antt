@@ -1,6 +1,6 @@
 use Rattle.std.proofs.Common.{sym, arith}
 use Rattle.std.proofs.lemmas.Grind.{common_steps}
-use Rattle.rz_text.proofs.NumberLaws.{hexadecimal_digits}
+use Rattle.rz_text.specs.Laws.Numbers.{hexadecimal_digits}
 use Rattle.rz_text.proofs.number.hexadecimal.Goals as goal
 
 pub value-requires-clause-digits : goal.value-requires-clause-digits

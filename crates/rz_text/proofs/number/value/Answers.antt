@@ -1,6 +1,6 @@
 use Rattle.std.proofs.Common.{arith}
 use Rattle.std.proofs.lemmas.Str.{IsUtf8-from_ascii}
-use Rattle.rz_text.proofs.NumberLaws.{IsAscii-digits}
+use Rattle.rz_text.specs.Laws.Numbers.{IsAscii-digits}
 use Rattle.rz_text.proofs.number.value.Goals as goal
 
 pub returns-in_default : goal.returns-in_default

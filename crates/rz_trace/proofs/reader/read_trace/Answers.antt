@@ -1,5 +1,5 @@
 use Rattle.std.proofs.Common.{◌≤◌, length, arith}
-use Rattle.rz_text.proofs.LineLaws.{length-lines_from}
+use Rattle.rz_text.specs.Laws.Lines.{length-lines_from}
 use Rattle.rz_trace.proofs.ReadLaws.{IsDraft-start, IsDraft-more}
 use Rattle.rz_trace.proofs.reader.read_trace.Goals as goal
 

@@ -2,7 +2,7 @@ use Rattle.std.proofs.Common.{Result, Ok, Err, OnOk, subst}
 use Rattle.rz_sys.specs.Heap.{HasHeap}
 use Rattle.rz_machine.specs.MachineState.{MachineState}
 use Rattle.rz_trace.proofs.TraceTurns.{no_memory, HasPart-nothing}
-use Rattle.rz_machine.proofs.RecordedLaws.{traced_plausible, traced_uncut}
+use Rattle.rz_machine.specs.Laws.Recorded.{traced_plausible, traced_uncut}
 use Rattle.rz_trace.proofs.tracer.trace.Goals as goal
 
 on_both : {A E : Type 0} (P Q R : Type 0) (r : Result A E) → OnOk r P → OnOk r Q → (P → Q → R) → OnOk r R

@@ -1,4 +1,4 @@
-use Rattle.rz_aset.proofs.Members.{found_at}
+use Rattle.rz_aset.specs.Laws.Places.{found_at}
 use Rattle.rz_aset.proofs.addresses.AddrSet.place.Goals as goal
 
 pub returns-clause-found : goal.returns-clause-found

@@ -1,7 +1,7 @@
 use Rattle.std.proofs.Common.{◌≡◌, ◌<◌, arith, true, get_or, length}
 use Rattle.std.proofs.lemmas.Option.{slice_get-get_or}
 use Rattle.rz_aset.specs.Sets.{has}
-use Rattle.rz_aset.proofs.Members.{All_of}
+use Rattle.rz_aset.specs.Laws.Places.{All_of}
 use Rattle.rz_flow.proofs.Reaching.{next_known, reaching_end, reaching_step}
 use Rattle.rz_flow.proofs.flow.Flow.reach.Goals as goal
 

@@ -2,7 +2,7 @@ use Rattle.std.proofs.Common.{◌+◌, ◌++◌, [], length, replicate, ap}
 use Rattle.rz_links.specs.Calls.Links.{next_of}
 use Rattle.rz_links.specs.declared.links.Link.{Link}
 use Rattle.rz_links.specs.Calls.Chains.{AreChains}
-use Rattle.rz_links.proofs.Paths.{chains_same, chains_more, only_chains}
+use Rattle.rz_links.specs.Laws.Paths.{chains_same, chains_more, only_chains}
 use Rattle.rz_links.proofs.lists.Lists.add_lists.Goals as goal
 
 pub invariant_of-self-inside : goal.invariant_of-self-inside

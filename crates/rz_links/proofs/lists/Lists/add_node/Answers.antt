@@ -3,7 +3,7 @@ use Rattle.rz_links.specs.Calls.Links.{next_of, alone}
 use Rattle.rz_links.specs.declared.links.Place.TheVariants.{Node}
 use Rattle.rz_links.specs.declared.links.Link.{Link}
 use Rattle.std.proofs.lemmas.List.{get_or_past}
-use Rattle.rz_links.proofs.Paths.{chains_same, only_chains, lists_without_fresh}
+use Rattle.rz_links.specs.Laws.Paths.{chains_same, only_chains, lists_without_fresh}
 use Rattle.rz_links.proofs.lists.Lists.add_node.Goals as goal
 
 pub invariant_of-self-inside : goal.invariant_of-self-inside

@@ -1,5 +1,5 @@
 use Rattle.std.proofs.Common.{rules, vec_len}
-use Rattle.rz_links.proofs.Paths.{below, stands_once}
+use Rattle.rz_links.specs.Laws.Paths.{below, stands_once}
 use Rattle.rz_links.proofs.lists.Lists.each_stands_once.Goals as goal
 
 pub returns-clause-once : goal.returns-clause-once

@@ -1,7 +1,7 @@
 use Rattle.std.proofs.Common.{◌≡◌, ◌∙◌, ap}
 use Rattle.rz_links.specs.Calls.Links.{next_of, node_of}
 use Rattle.rz_links.specs.declared.links.Place.TheVariants.{Head}
-use Rattle.rz_links.proofs.Paths.{is_first}
+use Rattle.rz_links.specs.Laws.Paths.{is_first}
 use Rattle.rz_links.proofs.lists.Lists.first.Goals as goal
 
 pub returns : goal.returns

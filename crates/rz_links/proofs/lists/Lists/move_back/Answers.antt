@@ -1,7 +1,7 @@
 use Rattle.std.proofs.Common.{rules, ℕ, List, map, ap}
 use Rattle.rz_links.specs.Lists.{without, with_back}
 use Rattle.rz_links.specs.Calls.Linked.{linked}
-use Rattle.rz_links.proofs.Paths.{chains_without, chains_back, chains_written, lists_written}
+use Rattle.rz_links.specs.Laws.Paths.{chains_without, chains_back, chains_written, lists_written}
 use Rattle.rz_links.proofs.lists.Lists.move_back.Goals as goal
 
 pub invariant_of-self-inside : goal.invariant_of-self-inside

@@ -1,7 +1,7 @@
 use Rattle.std.proofs.Common.{◌≡◌, ◌∙◌, ap}
 use Rattle.rz_links.specs.Calls.Links.{node_of, prev_of}
 use Rattle.rz_links.specs.declared.links.Place.TheVariants.{Node}
-use Rattle.rz_links.proofs.Paths.{is_prev}
+use Rattle.rz_links.specs.Laws.Paths.{is_prev}
 use Rattle.rz_links.proofs.lists.Lists.prev.Goals as goal
 
 pub returns : goal.returns

@@ -1,7 +1,7 @@
 use Rattle.std.proofs.Common.{length}
 use Rattle.rz_links.specs.Calls.Links.{next_of}
 use Rattle.rz_links.specs.Calls.Chains.{AreChains}
-use Rattle.rz_links.proofs.Paths.{only_chains}
+use Rattle.rz_links.specs.Laws.Paths.{only_chains}
 use Rattle.rz_links.proofs.lists.Lists.reserve.Goals as goal
 
 pub returns-in_err-reserve-clause-lists : goal.returns-in_err-reserve-clause-lists

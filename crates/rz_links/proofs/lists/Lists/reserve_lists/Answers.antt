@@ -2,7 +2,7 @@ use Rattle.std.proofs.Common.{ℕ, List, length, ap}
 use Rattle.rz_links.specs.Calls.Links.{next_of}
 use Rattle.rz_links.specs.Calls.Chains.{AreChains}
 use Rattle.rz_links.specs.Calls.Linked.{linked}
-use Rattle.rz_links.proofs.Paths.{only_chains}
+use Rattle.rz_links.specs.Laws.Paths.{only_chains}
 use Rattle.rz_links.proofs.lists.Lists.reserve_lists.Goals as goal
 
 pub returns-in_err-reserve-clause-same : goal.returns-in_err-reserve-clause-same

@@ -3,7 +3,7 @@ use Rattle.rz_isa.specs.Decoded.{decoded}
 use Rattle.rz_machine.specs.MachineState.{MachineState}
 use Rattle.rz_machine.specs.Calls.Cache.{Serves}
 use Rattle.rz_machine.specs.State.{step, after}
-use Rattle.rz_machine.proofs.RunTurns.{after-long, after-next}
+use Rattle.rz_machine.specs.Laws.RunTurns.{after-long, after-next}
 use Rattle.rz_machine.proofs.machine.Machine.run.Goals as goal
 
 pub loop-init : goal.loop-init

@@ -1,6 +1,6 @@
 use Rattle.std.proofs.Common.{refl}
-use Rattle.rz_isa.proofs.OneRow.{one_row}
-use Rattle.rz_isa.proofs.Choice.{one_canonical_row, canonical_spells}
+use Rattle.rz_isa.specs.Laws.OneRow.{one_row}
+use Rattle.rz_isa.specs.Laws.Choice.{one_canonical_row, canonical_spells}
 use Rattle.rz_table.specs.declared.profile_rows.TheConstants.{PROFILE}
 use Rattle.rz_table.proofs.profile.Profile1InsnTable.count.Goals as goal
 

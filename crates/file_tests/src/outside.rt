@@ -1,0 +1,184 @@
+// What no clause says: that calls succeed, which calls of a fake fail and what they leave, and that real files and
+// standard output are reached.
+
+use rz_num::{Bytes, OutOfMemory, Text};
+use rz_outside::{
+    DirStore, MemSink, MemStore, OutSink, PlainSink, PlainStore, PutErr, ReadErr, Sink, Store,
+    WriteErr, has_distinct_names,
+};
+use std::alloc::Global;
+use std::fmt::Display;
+use std::fs;
+use std::io::{self, Print};
+use std::os::unix::fs::PermissionsExt;
+use std::test::Fail;
+
+// One file.
+fn one_file(alloc: Global, name: &str, bytes: &[u8]) -> Result<Vec<(Text, Bytes)>, OutOfMemory> {
+    let mut files = Vec::new(alloc);
+    files.push((
+        Text::from_slice(alloc, name)?,
+        Bytes::from_slice(alloc, bytes)?,
+    ))?;
+    Ok(files)
+}
+
+#[test]
+fn listed_calls_of_a_store_fail(rt: HostRuntime) -> Result<(), Fail> {
+    let files = one_file(rt.alloc(), "a", &[1, 2, 3, 4, 5])?;
+    assert!(rt; has_distinct_names(files.as_slice()));
+    let mut store = MemStore::new(rt.alloc(), files, vec![in rt.alloc(); 1, 3]?)?;
+    let a = Text::from_slice(rt.alloc(), "a")?;
+    let b = Text::from_slice(rt.alloc(), "b")?;
+    let bytes = Bytes::from_slice(rt.alloc(), &[6, 7, 8, 9, 10])?;
+    assert_eq!(rt;
+        store.read_all(rt.alloc(), &a, 9).err(),
+        Some(ReadErr::Failed)
+    );
+    assert_eq!(rt;
+        store.read_all(rt.alloc(), &a, 3)?.as_slice(),
+        [1, 2, 3].as_slice()
+    );
+    assert_eq!(rt;
+        store.write_all(rt.alloc(), &b, &bytes),
+        Err(WriteErr::Failed)
+    );
+    assert_eq!(rt; store.get("b"), Some([6, 7].as_slice()));
+    assert_eq!(rt; store.write_all(rt.alloc(), &b, &bytes), Ok(()));
+    assert_eq!(rt; store.get("b"), Some(bytes.as_slice()));
+    assert_eq!(rt; store.get("a"), Some([1, 2, 3, 4, 5].as_slice()));
+    Ok(())
+}
+
+#[test]
+fn listed_calls_of_a_sink_fail(rt: HostRuntime) -> Result<(), Fail> {
+    let mut sink = MemSink::new(rt.alloc(), vec![in rt.alloc(); 2]?)?;
+    let text = Bytes::from_slice(rt.alloc(), b"abc")?;
+    assert_eq!(rt; sink.put(&text), Ok(()));
+    assert_eq!(rt; sink.put(&text), Err(PutErr::Failed));
+    assert_eq!(rt; sink.put(&text), Ok(()));
+    assert_eq!(rt; sink.as_slice(), b"abcaabc".as_slice());
+    Ok(())
+}
+
+#[test]
+fn plain_store_and_sink_hold_what_they_get(rt: HostRuntime) -> Result<(), Fail> {
+    let files = one_file(rt.alloc(), "a", &[1, 2])?;
+    assert!(rt; has_distinct_names(files.as_slice()));
+    let mut store = PlainStore::new(rt.alloc(), files)?;
+    let a = Text::from_slice(rt.alloc(), "a")?;
+    let b = Text::from_slice(rt.alloc(), "b")?;
+    assert_eq!(rt;
+        store.read_all(rt.alloc(), &b, 9).err(),
+        Some(ReadErr::Missing)
+    );
+    let bytes = Bytes::from_slice(rt.alloc(), &[3])?;
+    store.write_all(rt.alloc(), &a, &bytes)?;
+    store.write_all(rt.alloc(), &b, &bytes)?;
+    assert_eq!(rt; store.get("a"), Some([3].as_slice()));
+    assert_eq!(rt;
+        store.read_all(rt.alloc(), &b, 9)?.as_slice(),
+        [3].as_slice()
+    );
+    let mut sink = PlainSink::new(rt.alloc());
+    sink.put(&bytes)?;
+    assert_eq!(rt; sink.as_slice(), [3].as_slice());
+    Ok(())
+}
+
+#[test]
+fn a_name_given_twice_is_found(rt: HostRuntime) -> Result<(), Fail> {
+    let mut files = one_file(rt.alloc(), "a", &[1])?;
+    files.push((Text::from_slice(rt.alloc(), "b")?, Bytes::new(rt.alloc())))?;
+    assert!(rt; has_distinct_names(files.as_slice()));
+    files.push((Text::from_slice(rt.alloc(), "a")?, Bytes::new(rt.alloc())))?;
+    assert!(rt; !has_distinct_names(files.as_slice()));
+    Ok(())
+}
+
+#[test]
+fn real_files_are_written_and_read(rt: HostRuntime) -> Result<(), Fail> {
+    let mut store = DirStore::new(rt.alloc(), &rt);
+    let name = Text::from_slice(rt.alloc(), "rz_outside_written")?;
+    let bytes = Bytes::from_slice(rt.alloc(), &[7u8; 9000])?;
+    store.write_all(rt.alloc(), &name, &bytes)?;
+    assert_eq!(rt;
+        store.read_all(rt.alloc(), &name, 9999)?.as_slice(),
+        bytes.as_slice()
+    );
+    assert_eq!(rt;
+        store.read_all(rt.alloc(), &name, 2)?.as_slice(),
+        [7, 7].as_slice()
+    );
+    fs::remove_file(&rt, name.as_slice())?;
+    assert_eq!(rt;
+        store.read_all(rt.alloc(), &name, 2).err(),
+        Some(ReadErr::Missing)
+    );
+    let nowhere = Text::from_slice(rt.alloc(), "rz_outside_nowhere/file")?;
+    assert_eq!(rt;
+        store.write_all(rt.alloc(), &nowhere, &bytes),
+        Err(WriteErr::Failed)
+    );
+    Ok(())
+}
+
+// Writes a file, and tells the permission bits that it has then.
+fn mode_after(
+    rt: &HostRuntime,
+    store: &mut DirStore<'_, HostRuntime>,
+    name: &str,
+    bytes: &[u8],
+) -> Result<u32, Fail> {
+    let text = Text::from_slice(rt.alloc(), name)?;
+    store.write_all(rt.alloc(), &text, &Bytes::from_slice(rt.alloc(), bytes)?)?;
+    Ok(fs::metadata(rt, name)?.permissions().mode())
+}
+
+#[test]
+fn new_elf_files_may_be_executed(rt: HostRuntime) -> Result<(), Fail> {
+    let mut store = DirStore::new(rt.alloc(), &rt);
+    let elf = mode_after(&rt, &mut store, "rz_outside_elf", &[0x7f, 0x45, 0x4c, 0x46])?;
+    assert_eq!(rt; elf & 0o100, 0o100);
+    let text = mode_after(&rt, &mut store, "rz_outside_text", &[0x45, 0x4c, 0x46])?;
+    assert_eq!(rt; text & 0o111, 0);
+    let kept = mode_after(
+        &rt,
+        &mut store,
+        "rz_outside_text",
+        &[0x7f, 0x45, 0x4c, 0x46],
+    )?;
+    assert_eq!(rt; kept, text);
+    fs::remove_file(&rt, "rz_outside_elf")?;
+    fs::remove_file(&rt, "rz_outside_text")?;
+    Ok(())
+}
+
+// Prints nothing.
+struct Full;
+
+impl Print for Full {
+    fn print<D: Display + Drop>(&self, _: D) -> io::Result<()> {
+        Ok(())
+    }
+
+    fn println<D: Display + Drop>(&self, _: D) -> io::Result<()> {
+        Ok(())
+    }
+
+    fn write_all(&self, _: &[u8]) -> io::Result<()> {
+        Ok(())
+    }
+
+    fn write_some(&self, _: &[u8]) -> io::Result<usize> {
+        Ok(0)
+    }
+}
+
+#[test]
+fn standard_output_is_written(rt: HostRuntime) -> Result<(), Fail> {
+    let text = Bytes::from_slice(rt.alloc(), b"to standard output\n")?;
+    assert_eq!(rt; OutSink::new(&rt).put(&text), Ok(()));
+    assert_eq!(rt; OutSink::new(&Full).put(&text), Err(PutErr::Failed));
+    Ok(())
+}

@@ -1,0 +1,21 @@
+-- Lemmas that other crates cite.
+pub mod Again
+pub mod Choice
+pub mod Elsewhere
+pub mod Exclusion
+pub mod Front
+pub mod Inverse
+pub mod OneRow
+pub mod Parts
+pub mod Read
+pub mod Served
+pub mod Tests
+pub mod Whole
+pub mod Built
+pub mod Complete
+pub mod Lesser
+pub mod Numbers
+pub mod Sound
+pub mod Targeted
+pub mod Types
+pub mod NearItems

@@ -1,7 +1,0 @@
-use Rattle.std.proofs.Common.{◌≡◌, ℕ, take}
-use Rattle.rz_paths.specs.Sets.{joins}
-use Rattle.rz_paths.specs.Calls.Inside.{calls_back}
-use Rattle.rz_paths.proofs.returns.edges_back.Given as goal
-
-abbrev pub invariant-loop-edge : goal.invariant-loop-edge
-invariant-loop-edge g l = (f r : ℕ) → joins l.back f r ≡ calls_back (g.P.Program.code l.program) l.nodes (take l.edge-index l.edges) f r

@@ -1,7 +1,0 @@
-use Rattle.std.proofs.Common.{take}
-use Rattle.rz_paths.specs.Sets.{joins}
-use Rattle.rz_paths.proofs.ReturnLemmas.{Gathered}
-use Rattle.rz_paths.proofs.returns.returns_after.Given as goal
-
-abbrev pub invariant-loop-f : goal.invariant-loop-f
-invariant-loop-f g l = Gathered (g.P.Program.code l.program) l.nodes (joins l.edges) (take l.f-index l.callees) l.found

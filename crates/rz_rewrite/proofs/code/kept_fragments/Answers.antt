@@ -1,0 +1,75 @@
+use Rattle.std.proofs.Common.{◌≡◌, ℕ, ◌+◌, ◌*◌, ◌^◌, ◌<◌, List, length, sym, ap, ◌∙◌, subst, arith}
+use Rattle.rz_isa.specs.declared.rows.Row.{Row}
+use Rattle.rz_isa.specs.declared.fragment_list.Fragments.{Fragments}
+use Rattle.rz_isa.specs.Decoded.{decoded}
+use Rattle.rz_elf.specs.AddedRange.{Added}
+use Rattle.rz_elf.specs.Elf.{Image, image_of}
+use Rattle.rz_machine.specs.Kept.{Kept, sorted}
+use Rattle.rz_machine.specs.Nodes.{code_in}
+use Rattle.rz_machine.specs.Traced.{kept_in}
+use Rattle.rz_rewrite.specs.Fragments.{node_items, fragment_list, stub_pairs}
+use Rattle.rz_rewrite.specs.Rewritten.{IsFit}
+use Rattle.rz_rewrite.specs.Calls.Plan.{AreMovable}
+use Rattle.rz_rewrite.proofs.NewCodeLaws.{movable, stubs_end, made_is, may_lay, Made}
+use Rattle.rz_rewrite.proofs.Planned.{fit_of}
+use Rattle.rz_rewrite.proofs.code.kept_fragments.Goals as goal
+
+pub fragment_list-requires-clause-movable : goal.fragment_list-requires-clause-movable
+fragment_list-requires-clause-movable g c =
+    let rows : List Row = g.T.InsnTable.rows in
+    let q = c.requires.can in
+    let x : Image = image_of c.args.elf.now.bytes in
+    let kept : Kept = kept_in c.args.kept.now in
+    let fit : IsFit (decoded rows) x kept = fit_of (decoded rows) c.args.elf.now.bytes kept c.args.range.now q in
+    let all = movable rows c.table_facts.ensures x kept fit in
+    let scratch = ap (λ (a : Added). a.scratch) q.range_is in
+    subst (λ l. AreMovable (decoded rows) (code_in x.loads) c.args.range.now.scratch kept.edges l) (sym c.requires.nodes) (subst (λ s. AreMovable (decoded rows) (code_in x.loads) s kept.edges (sorted kept.nodes)) (sym scratch) all)
+
+pub stub_pairs-requires : goal.stub_pairs-requires
+stub_pairs-requires g c =
+    let rows : List Row = g.T.InsnTable.rows in
+    let q = c.requires.can in
+    let x : Image = image_of c.args.elf.now.bytes in
+    let kept : Kept = kept_in c.args.kept.now in
+    let fit : IsFit (decoded rows) x kept = fit_of (decoded rows) c.args.elf.now.bytes kept c.args.range.now q in
+    let low = stubs_end rows c.table_facts.ensures x kept fit in
+    let stubs = ap (λ (a : Added). a.stubs) q.range_is in
+    let count = ap length c.requires.nodes in
+    go c.args.range.now.stubs _ (length c.args.nodes.now) _ stubs count low
+  where
+    go : (r s n m : ℕ) → r ≡ s → n ≡ m → s + 24 * m < 2 ^ 31 → r + 24 * n < 2 ^ 64
+    go r s n m e f h = omega (arith, e, f, h)
+
+pub returns-clause-all : goal.returns-clause-all
+returns-clause-all g c =
+    let rows : List Row = g.T.InsnTable.rows in
+    let q = c.requires.can in
+    let x : Image = image_of c.args.elf.now.bytes in
+    let kept : Kept = kept_in c.args.kept.now in
+    let fit : IsFit (decoded rows) x kept = fit_of (decoded rows) c.args.elf.now.bytes kept c.args.range.now q in
+    let f : Fragments = record { list = c.in_ok-list.list; routine = c.new.result; tables = c.new-2.result; stubs = c.in_ok-stub_pairs.field-0 } in
+    let made : Made rows c.table_facts.ensures x kept fit c.args.range.now f = record {
+      range_is = q.range_is;
+      list = c.in_ok-list.ensures ∙ ap (fragment_list (node_items (decoded rows) (code_in x.loads) c.args.range.now.scratch kept.edges)) c.requires.nodes;
+      routine = c.new.ensures;
+      tables = c.new-2.ensures;
+      stubs = c.in_ok-stub_pairs.ensures ∙ ap (stub_pairs c.args.range.now.stubs) c.requires.nodes;
+    } in
+    made_is rows c.table_facts.ensures x kept fit c.args.range.now f made
+
+pub returns-clause-may_lay : goal.returns-clause-may_lay
+returns-clause-may_lay g c =
+    let rows : List Row = g.T.InsnTable.rows in
+    let q = c.requires.can in
+    let x : Image = image_of c.args.elf.now.bytes in
+    let kept : Kept = kept_in c.args.kept.now in
+    let fit : IsFit (decoded rows) x kept = fit_of (decoded rows) c.args.elf.now.bytes kept c.args.range.now q in
+    let f : Fragments = record { list = c.in_ok-list.list; routine = c.new.result; tables = c.new-2.result; stubs = c.in_ok-stub_pairs.field-0 } in
+    let made : Made rows c.table_facts.ensures x kept fit c.args.range.now f = record {
+      range_is = q.range_is;
+      list = c.in_ok-list.ensures ∙ ap (fragment_list (node_items (decoded rows) (code_in x.loads) c.args.range.now.scratch kept.edges)) c.requires.nodes;
+      routine = c.new.ensures;
+      tables = c.new-2.ensures;
+      stubs = c.in_ok-stub_pairs.ensures ∙ ap (stub_pairs c.args.range.now.stubs) c.requires.nodes;
+    } in
+    may_lay rows c.table_facts.ensures x kept fit c.sized_stand_near.ensures c.args.range.now f made
