@@ -1,6 +1,6 @@
 // Sets of addresses.
 
-ghost use Rattle.std.specs.Prelude.{◌≡◌, ◌<◌, ◌^◌, ℕ, [], not, length, nat_eq, slice_get, Some, is_some, IfSome, OnOk, OnErr, IfOk, IsSorted};
+ghost use Rattle.std.specs.Prelude.{◌≡◌, ◌<◌, ◌^◌, ℕ, [], ◌∷◌, not, length, nat_eq, slice_get, Some, is_some, IfSome, OnOk, OnErr, IfOk, IsSorted};
 ghost use Rattle.std.specs.Ordering.{nat_cmp};
 ghost use Rattle.std.specs.List.{IsDistinct};
 ghost use Rattle.std.specs.List.Sorted.{IsPermutation};
@@ -15,15 +15,17 @@ use std::marker::Model;
 /// Addresses, each once, in the order in which they were first seen. A look-up takes constant time on average.
 #[derive(Drop)]
 pub struct AddrSet {
-    items: IndexSet<u64>,
+    alloc: Global,
+    /// None until the first address is added, so that a new set takes no memory.
+    items: Option<Box<IndexSet<u64>>>,
 }
 
 impl Model for AddrSet {
-    ghost use Rattle.std.specs.Prelude.{List, ℕ};
+    ghost use Rattle.std.specs.Prelude.{List, ℕ, [], option_map, unwrap_or};
 
     ghost Value = { List ℕ };
 
-    ghost view = { λ s. s.items.keys };
+    ghost view = { λ s. unwrap_or (option_map (λ b. b.value.keys) s.items) [] };
 }
 
 impl AddrSet {
@@ -31,9 +33,7 @@ impl AddrSet {
     pub fn new(alloc: Global) -> AddrSet
         ensures { result ≡ [] }
     {
-        AddrSet {
-            items: IndexSet::new(alloc),
-        }
+        AddrSet { alloc, items: None }
     }
 
     /// Adds an address, and says whether it is new. It refuses for want of memory alone, and then the set is unchanged.
@@ -42,7 +42,13 @@ impl AddrSet {
         ensures ok { OnOk result (self.new ≡ with_address self.old x) }
         ensures err { OnErr result (self.new ≡ self.old) }
     {
-        Ok(self.items.insert(x)?)
+        match &mut self.items {
+            Some(items) => Ok(items.insert(x)?),
+            None => {
+                self.items = Some(single(self.alloc, x)?);
+                Ok(true)
+            }
+        }
     }
 
     /// Adds the addresses of a slice. It refuses for want of memory alone, and then those from the front of the slice up
@@ -61,7 +67,10 @@ impl AddrSet {
     pub fn contains(&self, x: u64) -> bool
         ensures { result ≡ has self.now x }
     {
-        self.items.contains(&x)
+        match &self.items {
+            Some(items) => items.contains(&x),
+            None => false,
+        }
     }
 
     /// The number of its addresses.
@@ -69,14 +78,17 @@ impl AddrSet {
         ensures len { result ≡ length self.now }
         ensures small { result < 2 ^ 63 }
     {
-        self.items.len()
+        match &self.items {
+            Some(items) => items.len(),
+            None => 0,
+        }
     }
 
     /// The address that was first seen at place `i`, from 0 on; None exactly past the end.
     pub fn get(&self, i: usize) -> Option<u64>
         ensures { result ≡ slice_get self.now i }
     {
-        self.items.get_index(i).copied()
+        self.as_slice().get(i).copied()
     }
 
     /// The place at which an address was first seen, from 0 on; None exactly where the set doesn't have it.
@@ -85,8 +97,11 @@ impl AddrSet {
         ensures variant { is_some result ≡ has self.now x }
         ensures distinct { IsDistinct nat_eq self.now }
     {
-        let _ = self.items.len();
-        self.items.get_index_of(&x)
+        let _ = self.as_slice();
+        match &self.items {
+            Some(items) => items.get_index_of(&x),
+            None => None,
+        }
     }
 
     /// Its addresses in the order in which they were first seen.
@@ -94,7 +109,10 @@ impl AddrSet {
         ensures value { result.now ≡ self.now }
         ensures distinct { IsDistinct nat_eq self.now }
     {
-        self.items.as_slice()
+        match &self.items {
+            Some(items) => items.as_slice(),
+            None => &[],
+        }
     }
 
     /// Its addresses in ascending order. It refuses for want of memory alone.
@@ -103,8 +121,17 @@ impl AddrSet {
         ensures same { IfOk result (IsPermutation self.now) }
         ensures value { IfOk result (λ words. words ≡ sorted_of self.now) }
     {
-        let mut words = Vec::from_slice(alloc, self.items.as_slice())?;
+        let mut words = Vec::from_slice(alloc, self.as_slice())?;
         words.sort_unstable();
         Ok(Words::from_vec(words))
     }
+}
+
+// The set of one address.
+fn single(alloc: Global, x: u64) -> Result<Box<IndexSet<u64>>, OutOfMemory>
+    ensures { IfOk result (λ set. set.value.keys ≡ x ∷ []) }
+{
+    let mut set = Box::new(alloc, IndexSet::new(alloc))?;
+    set.insert(x)?;
+    Ok(set)
 }

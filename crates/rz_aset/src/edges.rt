@@ -1,6 +1,6 @@
 // Sets of edges.
 
-ghost use Rattle.std.specs.Prelude.{◌≡◌, ◌<◌, ◌^◌, ℕ, [], not, length, slice_get, OnOk, OnErr, IfOk, IsSorted};
+ghost use Rattle.std.specs.Prelude.{◌≡◌, ◌<◌, ◌^◌, ℕ, [], ◌∷◌, not, length, slice_get, OnOk, OnErr, IfOk, IsSorted};
 ghost use Rattle.std.specs.List.{IsDistinct};
 ghost use Rattle.std.specs.List.Sorted.{IsPermutation};
 ghost use Rattle.rz_aset.specs.Sets.{edge_cmp, has_edge, is_same_edge, with_edge};
@@ -15,15 +15,17 @@ use std::marker::Model;
 /// time on average.
 #[derive(Drop)]
 pub struct EdgeSet {
-    items: IndexSet<(u64, u64)>,
+    alloc: Global,
+    /// None until the first edge is added, so that a new set takes no memory.
+    items: Option<Box<IndexSet<(u64, u64)>>>,
 }
 
 impl Model for EdgeSet {
-    ghost use Rattle.std.specs.Prelude.{List, ℕ};
+    ghost use Rattle.std.specs.Prelude.{List, ℕ, [], option_map, unwrap_or};
 
     ghost Value = { List (ℕ × ℕ) };
 
-    ghost view = { λ s. s.items.keys };
+    ghost view = { λ s. unwrap_or (option_map (λ b. b.value.keys) s.items) [] };
 }
 
 impl EdgeSet {
@@ -31,9 +33,7 @@ impl EdgeSet {
     pub fn new(alloc: Global) -> EdgeSet
         ensures { result ≡ [] }
     {
-        EdgeSet {
-            items: IndexSet::new(alloc),
-        }
+        EdgeSet { alloc, items: None }
     }
 
     /// Adds an edge, and says whether it is new. It refuses for want of memory alone, and then the set is unchanged.
@@ -42,14 +42,23 @@ impl EdgeSet {
         ensures ok { OnOk result (self.new ≡ with_edge self.old x) }
         ensures err { OnErr result (self.new ≡ self.old) }
     {
-        Ok(self.items.insert(x)?)
+        match &mut self.items {
+            Some(items) => Ok(items.insert(x)?),
+            None => {
+                self.items = Some(single(self.alloc, x)?);
+                Ok(true)
+            }
+        }
     }
 
     /// Whether the set has the edge.
     pub fn contains(&self, x: (u64, u64)) -> bool
         ensures { result ≡ has_edge self.now x }
     {
-        self.items.contains(&x)
+        match &self.items {
+            Some(items) => items.contains(&x),
+            None => false,
+        }
     }
 
     /// The number of its edges.
@@ -57,14 +66,17 @@ impl EdgeSet {
         ensures len { result ≡ length self.now }
         ensures small { result < 2 ^ 63 }
     {
-        self.items.len()
+        match &self.items {
+            Some(items) => items.len(),
+            None => 0,
+        }
     }
 
     /// The edge that was first seen at place `i`, from 0 on; None exactly past the end.
     pub fn get(&self, i: usize) -> Option<(u64, u64)>
         ensures { result ≡ slice_get self.now i }
     {
-        self.items.get_index(i).copied()
+        self.as_slice().get(i).copied()
     }
 
     /// Its edges in the order in which they were first seen.
@@ -72,7 +84,10 @@ impl EdgeSet {
         ensures value { result.now ≡ self.now }
         ensures distinct { IsDistinct is_same_edge self.now }
     {
-        self.items.as_slice()
+        match &self.items {
+            Some(items) => items.as_slice(),
+            None => &[],
+        }
     }
 
     /// Its edges in ascending order, by their first and then by their second address. It refuses for want of memory
@@ -82,8 +97,17 @@ impl EdgeSet {
         ensures same { IfOk result (IsPermutation self.now) }
         ensures value { IfOk result (λ pairs. pairs ≡ sorted_edges self.now) }
     {
-        let mut pairs = Vec::from_slice(alloc, self.items.as_slice())?;
+        let mut pairs = Vec::from_slice(alloc, self.as_slice())?;
         pairs.sort_unstable();
         Ok(Pairs::from_vec(pairs))
     }
+}
+
+// The set of one edge.
+fn single(alloc: Global, x: (u64, u64)) -> Result<Box<IndexSet<(u64, u64)>>, OutOfMemory>
+    ensures { IfOk result (λ set. set.value.keys ≡ x ∷ []) }
+{
+    let mut set = Box::new(alloc, IndexSet::new(alloc))?;
+    set.insert(x)?;
+    Ok(set)
 }
