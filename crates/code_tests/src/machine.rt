@@ -1,12 +1,14 @@
 // A program that opens a page of its heap, reads into it, writes what it read, and exits.
 
 use crate::thin::program;
-use rz_machine::machine::{End, Outcome};
+use rz_elf::elf::Elf;
+use rz_machine::machine::{End, Machine, Outcome};
 use rz_machine::start::start;
-use rz_num::Bytes;
+use rz_num::{Bytes, OutOfMemory};
+use rz_sys::event::Event;
 use rz_sys::input::Input;
-use rz_sys::world::Unread;
 use rz_table::Profile1;
+use std::alloc::Global;
 use std::test::Fail;
 
 const CODE: [u8; 68] = [
@@ -16,13 +18,25 @@ const CODE: [u8; 68] = [
     0x05,
 ];
 
-#[test]
-fn reads_into_the_heap(rt: HostRuntime) -> Result<(), Fail> {
-    let alloc = rt.alloc();
-    let elf = program(alloc, &CODE)?;
-    let mut machine = start(alloc, &elf, &Input::empty(alloc))?;
-    machine.world.stdin = Unread::from_bytes(Bytes::from_slice(alloc, b"abc")?);
-    let outcome = machine.run::<Profile1>(alloc, 100)?;
+// The machine in which a run of the file begins, with "abc" to be read.
+fn started(alloc: Global, elf: &Elf) -> Result<Machine, OutOfMemory> {
+    let mut input = Input::empty(alloc);
+    input.stdin = Bytes::from_slice(alloc, b"abc")?;
+    start(alloc, elf, &input)
+}
+
+// Asserts that the calls of a run were these: the number of each, its answer, and the bytes that it moved.
+fn assert_calls(rt: &HostRuntime, events: &[Event], calls: &[(u64, u64, &[u8])]) {
+    assert_eq!(rt; events.len(), calls.len());
+    for (event, (number, answer, bytes)) in events.iter().zip(calls) {
+        assert_eq!(rt; event.number, *number);
+        assert_eq!(rt; event.answer, *answer);
+        assert_eq!(rt; event.bytes.as_slice(), *bytes);
+    }
+}
+
+fn run_to_the_exit(rt: &HostRuntime, machine: &mut Machine) -> Result<(), OutOfMemory> {
+    let outcome = machine.run::<Profile1>(rt.alloc(), 100)?;
     assert_eq!(rt; outcome, Outcome::Ended(End::Exit(7)));
     let calls = [
         (12, 0x40_3000, b"".as_slice()),
@@ -30,12 +44,14 @@ fn reads_into_the_heap(rt: HostRuntime) -> Result<(), Fail> {
         (1, 3, b"abc".as_slice()),
         (60, 0, b"".as_slice()),
     ];
-    let events = machine.world.events.as_slice();
-    assert_eq!(rt; events.len(), 4);
-    for (event, (number, answer, bytes)) in events.iter().zip(calls) {
-        assert_eq!(rt; event.number, number);
-        assert_eq!(rt; event.answer, answer);
-        assert_eq!(rt; event.bytes.as_slice(), bytes);
-    }
+    assert_calls(rt, machine.world.events.as_slice(), &calls);
+    Ok(())
+}
+
+#[test]
+fn reads_into_the_heap(rt: HostRuntime) -> Result<(), Fail> {
+    let elf = program(rt.alloc(), &CODE)?;
+    let mut machine = started(rt.alloc(), &elf)?;
+    run_to_the_exit(&rt, &mut machine)?;
     Ok(())
 }

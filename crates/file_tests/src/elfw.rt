@@ -162,6 +162,16 @@ fn parts_below(alloc: Global, end: u64) -> Result<Parts, OutOfMemory>
     })
 }
 
+// The written file of the example, with parts of a page each below its lowest load.
+fn written(rt: &HostRuntime, elf: &Elf, extent: &Extent) -> Result<Bytes, OutOfMemory>
+    requires { extent.now ≡ taken_by elf.now }
+{
+    assert!(rt; extent.no_room(12_288).is_none());
+    assert!(rt; extent.floor >= 16_384);
+    let parts = parts_below(rt.alloc(), extent.floor)?;
+    write_elf(rt.alloc(), elf, &parts, parts.base + 8196)
+}
+
 #[test]
 fn headers_stand_at_their_offsets(rt: HostRuntime) -> Result<(), Fail> {
     let elf = read_elf(rt.alloc(), file(rt.alloc())?)?;
@@ -173,10 +183,7 @@ fn headers_stand_at_their_offsets(rt: HostRuntime) -> Result<(), Fail> {
         memory: 18,
     };
     assert_eq!(rt; extent, expected);
-    assert!(rt; extent.no_room(12_288).is_none());
-    assert!(rt; extent.floor >= 16_384);
-    let parts = parts_below(rt.alloc(), extent.floor)?;
-    let written = write_elf(rt.alloc(), &elf, &parts, parts.base + 8196)?;
+    let written = written(&rt, &elf, &extent)?;
     let file = written.as_slice();
     assert_eq!(rt; file.len(), 24_576);
     assert!(rt; file.starts_with(&NEW_HEADERS));

@@ -17,12 +17,20 @@ fn graph(
 ) -> Result<Flow, OutOfMemory> {
     let mut flow = Flow::new(alloc)?;
     let mut known = AddrSet::new(alloc);
+    add_all(&mut flow, &mut known, nodes)?;
+    link_all(rt, &mut flow, &known, edges)?;
+    Ok(flow)
+}
+
+fn add_all(flow: &mut Flow, known: &mut AddrSet, nodes: &[u64]) -> Result<(), OutOfMemory>
+    requires { flow.old.nodes ≡ known.old }
+    ensures { OnOk result (flow.new.nodes ≡ known.new) }
+{
     for at in nodes {
         flow.add_node(*at)?;
         known.insert(*at)?;
     }
-    link_all(rt, &mut flow, &known, edges)?;
-    Ok(flow)
+    Ok(())
 }
 
 fn link_all(
@@ -124,14 +132,8 @@ fn reaches_against_loops_and_paths(rt: HostRuntime) -> Result<(), std::test::Fai
 
 // The nodes below a number, and an edge from each to the next.
 fn chain(rt: &impl Abort, alloc: Global, count: u64) -> Result<Flow, OutOfMemory> {
-    let mut nodes = Vec::new(alloc);
-    let mut edges = Vec::new(alloc);
-    for k in 0..count {
-        nodes.push(k)?;
-    }
-    for k in 1..count {
-        edges.push((k - 1, k))?;
-    }
+    let nodes: Vec<u64> = (0..count).collect(alloc)?;
+    let edges: Vec<(u64, u64)> = (1..count).map(|k| (k - 1, k)).collect(alloc)?;
     graph(rt, alloc, &nodes, &edges)
 }
 

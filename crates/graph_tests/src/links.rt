@@ -51,16 +51,31 @@ fn order(
     Ok(found)
 }
 
+// Asserts that a list has these nodes in order.
+fn assert_order(
+    rt: &HostRuntime,
+    arena: &Arena<u8>,
+    family: Family,
+    list: usize,
+    nodes: usize,
+    expected: &[usize],
+) -> Result<(), OutOfMemory>
+    requires list { list < length (lists_of arena.now family) }
+    requires nodes { nodes ≡ length arena.now.values }
+{
+    let found = order(rt, rt.alloc(), arena, family, list, nodes)?;
+    assert_eq!(rt; found.as_slice(), expected);
+    Ok(())
+}
+
 #[test]
 fn moves_to_the_back(rt: HostRuntime) -> Result<(), std::test::Fail> {
     let moved = [[1, 2, 0], [0, 2, 1], [0, 1, 2]];
     for node in 0..3 {
         let mut arena = three(rt.alloc())?;
         arena.move_back(node, Family::In, 0);
-        let outs = order(&rt, rt.alloc(), &arena, Family::Out, 0, 3)?;
-        let ins = order(&rt, rt.alloc(), &arena, Family::In, 0, 3)?;
-        assert_eq!(rt; outs.as_slice(), [0, 1, 2].as_slice());
-        assert_eq!(rt; ins.as_slice(), moved[node].as_slice());
+        assert_order(&rt, &arena, Family::Out, 0, 3, &[0, 1, 2])?;
+        assert_order(&rt, &arena, Family::In, 0, 3, &moved[node])?;
     }
     Ok(())
 }
@@ -72,13 +87,10 @@ fn leaves_lists(rt: HostRuntime) -> Result<(), std::test::Fail> {
     for node in 0..3 {
         let mut arena = three(rt.alloc())?;
         arena.move_back(node, Family::In, 1);
-        let moved = order(&rt, rt.alloc(), &arena, Family::In, 1, 3)?;
-        assert_eq!(rt; moved.as_slice(), [node].as_slice());
+        assert_order(&rt, &arena, Family::In, 1, 3, &[node])?;
         arena.unlink(node);
-        for family in [Family::Out, Family::In] {
-            let found = order(&rt, rt.alloc(), &arena, family, 0, 3)?;
-            assert_eq!(rt; found.as_slice(), left[node].as_slice());
-        }
+        assert_order(&rt, &arena, Family::Out, 0, 3, &left[node])?;
+        assert_order(&rt, &arena, Family::In, 0, 3, &left[node])?;
         assert_eq!(rt; arena.first(Family::In, 1), None);
     }
     Ok(())
@@ -90,10 +102,8 @@ fn inserts_after(rt: HostRuntime) -> Result<(), std::test::Fail> {
     for node in 0..3 {
         let mut arena = three(rt.alloc())?;
         let new = arena.insert_after(b'd', node, 1);
-        let outs = order(&rt, rt.alloc(), &arena, Family::Out, 0, 4)?;
-        let ins = order(&rt, rt.alloc(), &arena, Family::In, 1, 4)?;
-        assert_eq!(rt; outs.as_slice(), more[node].as_slice());
-        assert_eq!(rt; ins.as_slice(), [new].as_slice());
+        assert_order(&rt, &arena, Family::Out, 0, 4, &more[node])?;
+        assert_order(&rt, &arena, Family::In, 1, 4, &[new])?;
         assert_eq!(rt; *arena.value(new), b'd');
     }
     Ok(())

@@ -2,9 +2,10 @@
 
 use crate::fault::Fault;
 use crate::text::{add_digits, add_line};
+use rz_elf::elf::Elf;
 use rz_elf::fault::ElfError;
 use rz_elf::read::read_elf;
-use rz_machine::machine::{End, Outcome};
+use rz_machine::machine::{End, Machine, Outcome};
 use rz_machine::start::start;
 use rz_num::{Bytes, OutOfMemory};
 use rz_sys::event::Event;
@@ -20,19 +21,36 @@ const REGISTERS: [&str; 16] = [
 
 /// Adds the run of a file, for at most `steps` steps. A file that is not accepted is refused.
 pub fn add_run(alloc: Global, to: &mut Bytes, file: &[u8], steps: u64) -> Result<(), Fault> {
-    let elf = match read_elf(alloc, Bytes::from_slice(alloc, file)?) {
-        Ok(elf) => elf,
-        Err(ElfError::Fault(_)) => return Err(Fault::Line),
-        Err(ElfError::OutOfMemory) => return Err(Fault::OutOfMemory),
-    };
-    let mut machine = start(alloc, &elf, &Input::empty(alloc))?;
+    let elf = accepted(alloc, file)?;
+    add_run_of(alloc, to, &elf, steps)?;
+    Ok(())
+}
+
+fn accepted(alloc: Global, file: &[u8]) -> Result<Elf, Fault> {
+    match read_elf(alloc, Bytes::from_slice(alloc, file)?) {
+        Ok(elf) => Ok(elf),
+        Err(ElfError::Fault(_)) => Err(Fault::Line),
+        Err(ElfError::OutOfMemory) => Err(Fault::OutOfMemory),
+    }
+}
+
+fn add_run_of(alloc: Global, to: &mut Bytes, elf: &Elf, steps: u64) -> Result<(), OutOfMemory> {
+    let mut machine = start(alloc, elf, &Input::empty(alloc))?;
     let outcome = machine.run::<Profile1>(alloc, steps)?;
+    add_state(alloc, to, &machine, outcome)
+}
+
+fn add_state(
+    alloc: Global,
+    to: &mut Bytes,
+    machine: &Machine,
+    outcome: Outcome,
+) -> Result<(), OutOfMemory> {
     for event in machine.world.events.as_slice() {
         add_event(alloc, to, event)?;
     }
     add_line(to, outcome_text(alloc, outcome)?.as_str())?;
-    add_registers(alloc, to, &machine.cpu.regs)?;
-    Ok(())
+    add_registers(alloc, to, &machine.cpu.regs)
 }
 
 // Adds a system call: its number, its arguments, its answer, and the bytes that it moved.

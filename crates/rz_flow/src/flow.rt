@@ -20,7 +20,7 @@ use std::marker::Model;
 pub struct Flow {
     nodes: AddrSet,
     edges: EdgeSet,
-    arena: Arena<(u64, u64)>,
+    arena: Box<Arena<(u64, u64)>>,
 }
 
 impl Model for Flow {
@@ -31,7 +31,7 @@ impl Model for Flow {
 
     ghost view = { λ g. record { nodes = g.nodes; edges = g.edges } };
 
-    ghost invariant = { λ g. IsLinked g.nodes g.edges g.arena };
+    ghost invariant = { λ g. IsLinked g.nodes g.edges g.arena.value };
 }
 
 impl Flow {
@@ -42,7 +42,7 @@ impl Flow {
         Ok(Flow {
             nodes: AddrSet::new(alloc),
             edges: EdgeSet::new(alloc),
-            arena: Arena::new(alloc, 0, 0)?,
+            arena: Box::new(alloc, Arena::new(alloc, 0, 0)?)?,
         })
     }
 
