@@ -8,7 +8,8 @@ use rz_num::{Bytes, OutOfMemory};
 use rz_sys::event::Event;
 use rz_sys::input::Input;
 use rz_table::Profile1;
-use std::alloc::Global;
+use std::alloc::{AllocGlobal, Global};
+use std::process::Abort;
 use std::test::Fail;
 
 const CODE: [u8; 68] = [
@@ -26,7 +27,7 @@ fn started(alloc: Global, elf: &Elf) -> Result<Machine, OutOfMemory> {
 }
 
 // Asserts that the calls of a run were these: the number of each, its answer, and the bytes that it moved.
-fn assert_calls(rt: &HostRuntime, events: &[Event], calls: &[(u64, u64, &[u8])]) {
+fn assert_calls(rt: &impl Abort, events: &[Event], calls: &[(u64, u64, &[u8])]) {
     assert_eq!(rt; events.len(), calls.len());
     for (event, (number, answer, bytes)) in events.iter().zip(calls) {
         assert_eq!(rt; event.number, *number);
@@ -35,7 +36,10 @@ fn assert_calls(rt: &HostRuntime, events: &[Event], calls: &[(u64, u64, &[u8])])
     }
 }
 
-fn run_to_the_exit(rt: &HostRuntime, machine: &mut Machine) -> Result<(), OutOfMemory> {
+fn run_to_the_exit(
+    rt: &(impl Abort + AllocGlobal),
+    machine: &mut Machine,
+) -> Result<(), OutOfMemory> {
     let outcome = machine.run::<Profile1>(rt.alloc(), 100)?;
     assert_eq!(rt; outcome, Outcome::Ended(End::Exit(7)));
     let calls = [

@@ -3,9 +3,9 @@
 use crate::thin::program;
 use rz_elf::elf::Elf;
 use rz_machine::start::start;
+use rz_num::{Bytes, OutOfMemory};
 use rz_replay::compare::{Verdict, compare};
 use rz_replay::run_text::run_text;
-use rz_num::{Bytes, OutOfMemory};
 use rz_sys::input::Input;
 use rz_table::Profile1;
 use std::alloc::Global;

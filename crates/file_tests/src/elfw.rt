@@ -2,15 +2,17 @@
 // gABI, chapter 4, "ELF Header", and chapter 5, "Program Header".
 
 ghost use Rattle.std.specs.Prelude.{◌≡◌, ◌≤◌, length, IfOk};
-ghost use Rattle.rz_elf.specs.Room.{ArePages, parts_end, parts_size};
+ghost use Rattle.rz_elf.specs.Room.{ArePages, extent_of as extent_of_file, parts_end, parts_size};
 
+use rz_elf::elf::Elf;
 use rz_elf::read::read_elf;
 use rz_elf::room::Extent;
 use rz_elfw::extent::extent_of;
 use rz_elfw::parts::Parts;
 use rz_elfw::write::write_elf;
 use rz_num::{Bytes, OutOfMemory};
-use std::alloc::Global;
+use std::alloc::{AllocGlobal, Global};
+use std::process::Abort;
 use std::test::Fail;
 
 // The headers of a file with two bytes of code at 0x401000, at offset 4096.
@@ -163,8 +165,12 @@ fn parts_below(alloc: Global, end: u64) -> Result<Parts, OutOfMemory>
 }
 
 // The written file of the example, with parts of a page each below its lowest load.
-fn written(rt: &HostRuntime, elf: &Elf, extent: &Extent) -> Result<Bytes, OutOfMemory>
-    requires { extent.now ≡ taken_by elf.now }
+fn written(
+    rt: &(impl Abort + AllocGlobal),
+    elf: &Elf,
+    extent: &Extent,
+) -> Result<Bytes, OutOfMemory>
+    requires { extent.now ≡ extent_of_file elf.now.bytes }
 {
     assert!(rt; extent.no_room(12_288).is_none());
     assert!(rt; extent.floor >= 16_384);

@@ -6,11 +6,12 @@ use rz_outside::{
     DirStore, MemSink, MemStore, OutSink, PlainSink, PlainStore, PutErr, ReadErr, Sink, Store,
     WriteErr, has_distinct_names,
 };
-use std::alloc::Global;
+use std::alloc::{AllocGlobal, Global};
 use std::fmt::Display;
 use std::fs;
 use std::io::{self, Print};
 use std::os::unix::fs::PermissionsExt;
+use std::process::Abort;
 use std::test::Fail;
 
 // One file.
@@ -23,28 +24,62 @@ fn one_file(alloc: Global, name: &str, bytes: &[u8]) -> Result<Vec<(Text, Bytes)
     Ok(files)
 }
 
-#[test]
-fn listed_calls_of_a_store_fail(rt: HostRuntime) -> Result<(), Fail> {
+// Reads the first bytes of a file.
+fn read<S: Store>(alloc: Global, store: &mut S, name: &str, max: u64) -> Result<Bytes, ReadErr> {
+    let name = Text::from_slice(alloc, name)?;
+    store.read_all(alloc, &name, max)
+}
+
+fn write<S: Store>(alloc: Global, store: &mut S, name: &str, bytes: &[u8]) -> Result<(), WriteErr> {
+    let name = Text::from_slice(alloc, name)?;
+    write_to(alloc, store, &name, bytes)
+}
+
+fn write_to<S: Store>(
+    alloc: Global,
+    store: &mut S,
+    name: &Text,
+    bytes: &[u8],
+) -> Result<(), WriteErr> {
+    let bytes = Bytes::from_slice(alloc, bytes)?;
+    store.write_all(alloc, name, &bytes)
+}
+
+// Asserts what the first bytes of a file are.
+fn assert_read<S: Store>(
+    rt: &(impl Abort + AllocGlobal),
+    store: &mut S,
+    name: &str,
+    max: u64,
+    expected: &[u8],
+) -> Result<(), ReadErr> {
+    let bytes = read(rt.alloc(), store, name, max)?;
+    assert_eq!(rt; bytes.as_slice(), expected);
+    Ok(())
+}
+
+// The first read and the third call, a write, fail.
+fn failing_store(rt: &(impl Abort + AllocGlobal)) -> Result<MemStore, OutOfMemory> {
     let files = one_file(rt.alloc(), "a", &[1, 2, 3, 4, 5])?;
     assert!(rt; has_distinct_names(files.as_slice()));
-    let mut store = MemStore::new(rt.alloc(), files, vec![in rt.alloc(); 1, 3]?)?;
-    let a = Text::from_slice(rt.alloc(), "a")?;
-    let b = Text::from_slice(rt.alloc(), "b")?;
-    let bytes = Bytes::from_slice(rt.alloc(), &[6, 7, 8, 9, 10])?;
+    MemStore::new(rt.alloc(), files, vec![in rt.alloc(); 1, 3]?)
+}
+
+#[test]
+fn listed_calls_of_a_store_fail(rt: HostRuntime) -> Result<(), Fail> {
+    let mut store = failing_store(&rt)?;
+    let bytes = [6, 7, 8, 9, 10];
     assert_eq!(rt;
-        store.read_all(rt.alloc(), &a, 9).err(),
+        read(rt.alloc(), &mut store, "a", 9).err(),
         Some(ReadErr::Failed)
     );
+    assert_read(&rt, &mut store, "a", 3, &[1, 2, 3])?;
     assert_eq!(rt;
-        store.read_all(rt.alloc(), &a, 3)?.as_slice(),
-        [1, 2, 3].as_slice()
-    );
-    assert_eq!(rt;
-        store.write_all(rt.alloc(), &b, &bytes),
+        write(rt.alloc(), &mut store, "b", &bytes),
         Err(WriteErr::Failed)
     );
     assert_eq!(rt; store.get("b"), Some([6, 7].as_slice()));
-    assert_eq!(rt; store.write_all(rt.alloc(), &b, &bytes), Ok(()));
+    assert_eq!(rt; write(rt.alloc(), &mut store, "b", &bytes), Ok(()));
     assert_eq!(rt; store.get("b"), Some(bytes.as_slice()));
     assert_eq!(rt; store.get("a"), Some([1, 2, 3, 4, 5].as_slice()));
     Ok(())
@@ -61,26 +96,30 @@ fn listed_calls_of_a_sink_fail(rt: HostRuntime) -> Result<(), Fail> {
     Ok(())
 }
 
-#[test]
-fn plain_store_and_sink_hold_what_they_get(rt: HostRuntime) -> Result<(), Fail> {
+fn plain_store(rt: &(impl Abort + AllocGlobal)) -> Result<PlainStore, OutOfMemory> {
     let files = one_file(rt.alloc(), "a", &[1, 2])?;
     assert!(rt; has_distinct_names(files.as_slice()));
-    let mut store = PlainStore::new(rt.alloc(), files)?;
-    let a = Text::from_slice(rt.alloc(), "a")?;
-    let b = Text::from_slice(rt.alloc(), "b")?;
+    PlainStore::new(rt.alloc(), files)
+}
+
+#[test]
+fn a_plain_store_holds_what_it_gets(rt: HostRuntime) -> Result<(), Fail> {
+    let mut store = plain_store(&rt)?;
     assert_eq!(rt;
-        store.read_all(rt.alloc(), &b, 9).err(),
+        read(rt.alloc(), &mut store, "b", 9).err(),
         Some(ReadErr::Missing)
     );
-    let bytes = Bytes::from_slice(rt.alloc(), &[3])?;
-    store.write_all(rt.alloc(), &a, &bytes)?;
-    store.write_all(rt.alloc(), &b, &bytes)?;
+    write(rt.alloc(), &mut store, "a", &[3])?;
+    write(rt.alloc(), &mut store, "b", &[3])?;
     assert_eq!(rt; store.get("a"), Some([3].as_slice()));
-    assert_eq!(rt;
-        store.read_all(rt.alloc(), &b, 9)?.as_slice(),
-        [3].as_slice()
-    );
+    assert_read(&rt, &mut store, "b", 9, &[3])?;
+    Ok(())
+}
+
+#[test]
+fn a_plain_sink_holds_what_it_gets(rt: HostRuntime) -> Result<(), Fail> {
     let mut sink = PlainSink::new(rt.alloc());
+    let bytes = Bytes::from_slice(rt.alloc(), &[3])?;
     sink.put(&bytes)?;
     assert_eq!(rt; sink.as_slice(), [3].as_slice());
     Ok(())
@@ -99,25 +138,16 @@ fn a_name_given_twice_is_found(rt: HostRuntime) -> Result<(), Fail> {
 #[test]
 fn real_files_are_written_and_read(rt: HostRuntime) -> Result<(), Fail> {
     let mut store = DirStore::new(rt.alloc(), &rt);
-    let name = Text::from_slice(rt.alloc(), "rz_outside_written")?;
-    let bytes = Bytes::from_slice(rt.alloc(), &[7u8; 9000])?;
-    store.write_all(rt.alloc(), &name, &bytes)?;
+    write(rt.alloc(), &mut store, "rz_outside_written", &[7; 9000])?;
+    assert_read(&rt, &mut store, "rz_outside_written", 9999, &[7; 9000])?;
+    assert_read(&rt, &mut store, "rz_outside_written", 2, &[7, 7])?;
+    fs::remove_file(&rt, "rz_outside_written")?;
     assert_eq!(rt;
-        store.read_all(rt.alloc(), &name, 9999)?.as_slice(),
-        bytes.as_slice()
-    );
-    assert_eq!(rt;
-        store.read_all(rt.alloc(), &name, 2)?.as_slice(),
-        [7, 7].as_slice()
-    );
-    fs::remove_file(&rt, name.as_slice())?;
-    assert_eq!(rt;
-        store.read_all(rt.alloc(), &name, 2).err(),
+        read(rt.alloc(), &mut store, "rz_outside_written", 2).err(),
         Some(ReadErr::Missing)
     );
-    let nowhere = Text::from_slice(rt.alloc(), "rz_outside_nowhere/file")?;
     assert_eq!(rt;
-        store.write_all(rt.alloc(), &nowhere, &bytes),
+        write(rt.alloc(), &mut store, "rz_outside_nowhere/file", &[7]),
         Err(WriteErr::Failed)
     );
     Ok(())

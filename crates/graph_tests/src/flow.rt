@@ -5,7 +5,7 @@ ghost use Rattle.std.specs.Prelude.{◌≡◌, OnOk};
 use rz_aset::AddrSet;
 use rz_flow::Flow;
 use rz_num::{OutOfMemory, Words};
-use std::alloc::Global;
+use std::alloc::{AllocGlobal, Global};
 use std::process::Abort;
 
 // The graph of these nodes, and of edges between them.
@@ -98,35 +98,39 @@ fn worked(rt: &impl Abort, alloc: Global) -> Result<Flow, OutOfMemory> {
     graph(rt, alloc, &nodes, &edges)
 }
 
-#[test]
-fn reaches_along_loops_and_paths(rt: HostRuntime) -> Result<(), std::test::Fail> {
-    let flow = worked(&rt, rt.alloc())?;
-    let rows: [(u64, &[u64]); 5] = [
-        (1, &[1, 2, 3, 4, 5, 6]),
-        (4, &[4, 6]),
-        (6, &[6]),
-        (7, &[7]),
-        (99, &[]),
-    ];
-    for (at, all) in rows {
-        assert_eq!(rt; reached(rt.alloc(), &flow, (99, at))?.as_slice(), all);
+// Asserts what is reached from a node, and what reaches it.
+fn assert_reach(
+    rt: &(impl Abort + AllocGlobal),
+    flow: &Flow,
+    at: u64,
+    after: &[u64],
+    before: &[u64],
+) -> Result<(), OutOfMemory> {
+    assert_eq!(rt; reached(rt.alloc(), flow, (99, at))?.as_slice(), after);
+    assert_eq!(rt; reaching(rt.alloc(), flow, (at, 99))?.as_slice(), before);
+    Ok(())
+}
+
+// A node of the worked graph, what is reached from it, and what reaches it.
+const REACHES: [(u64, &[u64], &[u64]); 5] = [
+    (1, &[1, 2, 3, 4, 5, 6], &[1, 2, 3, 8]),
+    (4, &[4, 6], &[1, 2, 3, 4, 8]),
+    (6, &[6], &[1, 2, 3, 4, 5, 6, 8]),
+    (7, &[7], &[7]),
+    (99, &[], &[]),
+];
+
+fn assert_reaches(rt: &(impl Abort + AllocGlobal), flow: &Flow) -> Result<(), OutOfMemory> {
+    for (at, after, before) in &REACHES {
+        assert_reach(rt, flow, *at, after, before)?;
     }
     Ok(())
 }
 
 #[test]
-fn reaches_against_loops_and_paths(rt: HostRuntime) -> Result<(), std::test::Fail> {
+fn reaches_along_loops_and_paths(rt: HostRuntime) -> Result<(), std::test::Fail> {
     let flow = worked(&rt, rt.alloc())?;
-    let rows: [(u64, &[u64]); 5] = [
-        (1, &[1, 2, 3, 8]),
-        (4, &[1, 2, 3, 4, 8]),
-        (6, &[1, 2, 3, 4, 5, 6, 8]),
-        (7, &[7]),
-        (99, &[]),
-    ];
-    for (at, all) in rows {
-        assert_eq!(rt; reaching(rt.alloc(), &flow, (at, 99))?.as_slice(), all);
-    }
+    assert_reaches(&rt, &flow)?;
     Ok(())
 }
 
@@ -137,12 +141,23 @@ fn chain(rt: &impl Abort, alloc: Global, count: u64) -> Result<Flow, OutOfMemory
     graph(rt, alloc, &nodes, &edges)
 }
 
+fn assert_lengths(
+    rt: &(impl Abort + AllocGlobal),
+    flow: &Flow,
+    last: u64,
+    len: usize,
+) -> Result<(), OutOfMemory> {
+    assert_eq!(rt; reached(rt.alloc(), flow, (0, 0))?.as_slice().len(), len);
+    assert_eq!(rt;
+        reaching(rt.alloc(), flow, (last, last))?.as_slice().len(),
+        len
+    );
+    Ok(())
+}
+
 #[test]
 fn follows_a_long_chain(rt: HostRuntime) -> Result<(), std::test::Fail> {
     let flow = chain(&rt, rt.alloc(), 400_000)?;
-    let after = reached(rt.alloc(), &flow, (0, 0))?;
-    let before = reaching(rt.alloc(), &flow, (399_999, 399_999))?;
-    assert_eq!(rt; after.as_slice().len(), 400_000);
-    assert_eq!(rt; before.as_slice().len(), 400_000);
+    assert_lengths(&rt, &flow, 399_999, 400_000)?;
     Ok(())
 }

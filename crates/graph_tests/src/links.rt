@@ -6,7 +6,7 @@ ghost use Rattle.rz_links.specs.Arena.{lists_of};
 
 use rz_links::{Arena, Family};
 use rz_num::OutOfMemory;
-use std::alloc::Global;
+use std::alloc::{AllocGlobal, Global};
 use std::process::Abort;
 
 // Nodes 0, 1 and 2 in list 0 of each family, which has a list 1 too, with room for a node more.
@@ -53,7 +53,7 @@ fn order(
 
 // Asserts that a list has these nodes in order.
 fn assert_order(
-    rt: &HostRuntime,
+    rt: &(impl Abort + AllocGlobal),
     arena: &Arena<u8>,
     family: Family,
     list: usize,
@@ -68,43 +68,73 @@ fn assert_order(
     Ok(())
 }
 
+// One of three nodes goes to the back of its In list, which is then in this order.
+fn move_one(
+    rt: &(impl Abort + AllocGlobal),
+    node: usize,
+    moved: &[usize],
+) -> Result<(), OutOfMemory>
+    requires { node < 3 }
+{
+    let mut arena = three(rt.alloc())?;
+    arena.move_back(node, Family::In, 0);
+    assert_order(rt, &arena, Family::Out, 0, 3, &[0, 1, 2])?;
+    assert_order(rt, &arena, Family::In, 0, 3, moved)
+}
+
 #[test]
 fn moves_to_the_back(rt: HostRuntime) -> Result<(), std::test::Fail> {
-    let moved = [[1, 2, 0], [0, 2, 1], [0, 1, 2]];
-    for node in 0..3 {
-        let mut arena = three(rt.alloc())?;
-        arena.move_back(node, Family::In, 0);
-        assert_order(&rt, &arena, Family::Out, 0, 3, &[0, 1, 2])?;
-        assert_order(&rt, &arena, Family::In, 0, 3, &moved[node])?;
-    }
+    move_one(&rt, 0, &[1, 2, 0])?;
+    move_one(&rt, 1, &[0, 2, 1])?;
+    move_one(&rt, 2, &[0, 1, 2])?;
     Ok(())
 }
 
-// The node is first, in the middle and last of the lists that it leaves, and the only one of the last that it leaves.
+// One of three nodes leaves its lists, of which the one in which it stood alone is empty then.
+fn unlink_one(
+    rt: &(impl Abort + AllocGlobal),
+    node: usize,
+    left: &[usize],
+) -> Result<(), OutOfMemory>
+    requires { node < 3 }
+{
+    let mut arena = three(rt.alloc())?;
+    arena.move_back(node, Family::In, 1);
+    assert_order(rt, &arena, Family::In, 1, 3, &[node])?;
+    arena.unlink(node);
+    assert_eq!(rt; arena.first(Family::In, 1), None);
+    assert_order(rt, &arena, Family::Out, 0, 3, left)?;
+    assert_order(rt, &arena, Family::In, 0, 3, left)
+}
+
+// The node is first, in the middle and last of the lists that it leaves.
 #[test]
 fn leaves_lists(rt: HostRuntime) -> Result<(), std::test::Fail> {
-    let left = [[1, 2], [0, 2], [0, 1]];
-    for node in 0..3 {
-        let mut arena = three(rt.alloc())?;
-        arena.move_back(node, Family::In, 1);
-        assert_order(&rt, &arena, Family::In, 1, 3, &[node])?;
-        arena.unlink(node);
-        assert_order(&rt, &arena, Family::Out, 0, 3, &left[node])?;
-        assert_order(&rt, &arena, Family::In, 0, 3, &left[node])?;
-        assert_eq!(rt; arena.first(Family::In, 1), None);
-    }
+    unlink_one(&rt, 0, &[1, 2])?;
+    unlink_one(&rt, 1, &[0, 2])?;
+    unlink_one(&rt, 2, &[0, 1])?;
     Ok(())
+}
+
+// A new node follows one of three in its Out list.
+fn insert_one(
+    rt: &(impl Abort + AllocGlobal),
+    node: usize,
+    more: &[usize],
+) -> Result<(), OutOfMemory>
+    requires { node < 3 }
+{
+    let mut arena = three(rt.alloc())?;
+    let new = arena.insert_after(b'd', node, 1);
+    assert_eq!(rt; *arena.value(new), b'd');
+    assert_order(rt, &arena, Family::Out, 0, 4, more)?;
+    assert_order(rt, &arena, Family::In, 1, 4, &[new])
 }
 
 #[test]
 fn inserts_after(rt: HostRuntime) -> Result<(), std::test::Fail> {
-    let more = [[0, 3, 1, 2], [0, 1, 3, 2], [0, 1, 2, 3]];
-    for node in 0..3 {
-        let mut arena = three(rt.alloc())?;
-        let new = arena.insert_after(b'd', node, 1);
-        assert_order(&rt, &arena, Family::Out, 0, 4, &more[node])?;
-        assert_order(&rt, &arena, Family::In, 1, 4, &[new])?;
-        assert_eq!(rt; *arena.value(new), b'd');
-    }
+    insert_one(&rt, 0, &[0, 3, 1, 2])?;
+    insert_one(&rt, 1, &[0, 1, 3, 2])?;
+    insert_one(&rt, 2, &[0, 1, 2, 3])?;
     Ok(())
 }

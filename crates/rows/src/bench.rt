@@ -1,7 +1,10 @@
 //! The store and the sink that razor runs over.
 
+ghost use Rattle.rz_outside.specs.Entries.{HasDistinctNames};
+
 use crate::draft::Draft;
 use crate::fault::Fault;
+use crate::text::{add_line, add_put};
 use rz_core::status::number;
 use rz_core::tool::run_tool;
 use rz_num::{Bytes, OutOfMemory, Text};
@@ -14,10 +17,35 @@ enum Files {
     Plain(PlainStore),
 }
 
+impl Files {
+    // The calls of a store that fail are listed; of a plain one none does.
+    fn new(
+        alloc: Global,
+        files: Vec<(Text, Bytes)>,
+        failing: Option<Vec<u64>>,
+    ) -> Result<Files, OutOfMemory>
+        requires { HasDistinctNames files.items }
+    {
+        match failing {
+            Some(failing) => Ok(Files::Failing(MemStore::new(alloc, files, failing)?)),
+            None => Ok(Files::Plain(PlainStore::new(alloc, files)?)),
+        }
+    }
+}
+
 #[derive(Drop)]
 enum Output {
     Failing(MemSink),
     Plain(PlainSink),
+}
+
+impl Output {
+    fn new(alloc: Global, failing: Option<Vec<u64>>) -> Result<Output, OutOfMemory> {
+        match failing {
+            Some(failing) => Ok(Output::Failing(MemSink::new(alloc, failing)?)),
+            None => Ok(Output::Plain(PlainSink::new(alloc))),
+        }
+    }
 }
 
 /// A store and a sink.
@@ -27,27 +55,14 @@ pub struct Bench {
     output: Output,
 }
 
-/// What razor answers to a command line: its status, and the text that it put.
-#[derive(Drop)]
-pub struct Answer {
-    pub status: u8,
-    pub text: Bytes,
-}
-
 impl Bench {
     pub fn new(alloc: Global, draft: Draft) -> Result<Bench, Fault> {
         let Draft { files, store, sink } = draft;
         if !has_distinct_names(files.as_slice()) {
             return Err(Fault::Line);
         }
-        let files = match store {
-            Some(failing) => Files::Failing(MemStore::new(alloc, files, failing)?),
-            None => Files::Plain(PlainStore::new(alloc, files)?),
-        };
-        let output = match sink {
-            Some(failing) => Output::Failing(MemSink::new(alloc, failing)?),
-            None => Output::Plain(PlainSink::new(alloc)),
-        };
+        let output = Output::new(alloc, sink)?;
+        let files = Files::new(alloc, files, store)?;
         Ok(Bench { files, output })
     }
 
@@ -59,18 +74,20 @@ impl Bench {
         }
     }
 
-    /// Runs razor on the words of a command line.
-    pub fn run(&mut self, alloc: Global, words: &Vec<Text>) -> Result<Answer, OutOfMemory> {
+    /// Runs razor on the words of a command line, and adds its status and the text that it put.
+    pub fn run(
+        &mut self,
+        alloc: Global,
+        words: &Vec<Text>,
+        to: &mut Bytes,
+    ) -> Result<(), OutOfMemory> {
         let before = self.text().len();
         let status = match &mut self.files {
             Files::Failing(store) => run_into(alloc, words, store, &mut self.output),
             Files::Plain(store) => run_into(alloc, words, store, &mut self.output),
         };
-        let text = self.text().get(before..).unwrap_or(&[]);
-        Ok(Answer {
-            status,
-            text: Bytes::from_slice(alloc, text)?,
-        })
+        add_line(to, format!(in alloc; "status {status}")?.as_str())?;
+        add_put(to, self.text().get(before..).unwrap_or(&[]))
     }
 
     // All that the sink has got.

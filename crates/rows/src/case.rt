@@ -5,7 +5,7 @@ use crate::command::{Command, Question};
 use crate::draft::Draft;
 use crate::fault::Fault;
 use crate::machine::add_run;
-use crate::text::{add_bytes, add_line, add_put};
+use crate::text::{add_bytes, add_line};
 use rz_num::{Bytes, Text};
 use std::alloc::Global;
 use std::mem;
@@ -44,16 +44,18 @@ impl Case {
     }
 
     fn run(&mut self, alloc: Global, words: &Vec<Text>, to: &mut Bytes) -> Result<(), Fault> {
-        let mut bench = match mem::replace(self, Case::new(alloc)) {
-            Case::Draft(draft) => Bench::new(alloc, draft)?,
-            Case::Bench(bench) => bench,
-        };
-        let answer = bench.run(alloc, words)?;
+        let mut bench = self.take_bench(alloc)?;
+        let done = bench.run(alloc, words, to);
         *self = Case::Bench(bench);
-        let status = answer.status;
-        add_line(to, format!(in alloc; "status {status}")?.as_str())?;
-        add_put(to, answer.text.as_slice())?;
-        Ok(())
+        Ok(done?)
+    }
+
+    // The store and the sink, which a first run makes of the draft.
+    fn take_bench(&mut self, alloc: Global) -> Result<Bench, Fault> {
+        match mem::replace(self, Case::new(alloc)) {
+            Case::Draft(draft) => Bench::new(alloc, draft),
+            Case::Bench(bench) => Ok(bench),
+        }
     }
 
     // Adds the answer to a question.

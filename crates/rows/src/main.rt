@@ -13,20 +13,30 @@ mod thin;
 mod words;
 
 use script::Script;
-use std::alloc::AllocError;
+use std::alloc::{AllocError, Global};
 use std::io::{self, BufRead, BufReader, BufWriter, Write};
 
 fn run(rt: &(impl Input + Print + AllocGlobal)) -> io::Result<()> {
+    let mut out = BufWriter::new(rt.alloc(), io::writer(rt))?;
+    answer_all(rt, &mut out)?;
+    out.flush()
+}
+
+// Follows the script that is read, and writes each line with its answer.
+fn answer_all<W: Write>(rt: &(impl Input + AllocGlobal), out: &mut W) -> io::Result<()> {
     let alloc = rt.alloc();
-    let mut out = BufWriter::new(alloc, io::writer(rt))?;
     let mut script = Script::new(alloc);
     for line in BufReader::new(alloc, rt.reader())?.lines(alloc) {
-        let Ok(answer) = script.answer(alloc, line?.as_str()) else {
-            return Err(io::Error::from(AllocError));
-        };
-        out.write_all(answer.as_slice())?;
+        answer(alloc, &mut script, line?.as_str(), out)?;
     }
-    out.flush()
+    Ok(())
+}
+
+fn answer<W: Write>(alloc: Global, script: &mut Script, line: &str, out: &mut W) -> io::Result<()> {
+    match script.answer(alloc, line) {
+        Ok(answer) => out.write_all(answer.as_slice()),
+        Err(_) => Err(io::Error::from(AllocError)),
+    }
 }
 
 fn main(rt: HostRuntime) -> io::Result<()> {

@@ -1,7 +1,7 @@
 // The nodes that calls bring in with their functions.
 
-ghost use Rattle.std.specs.Prelude.{◌≡◌, ◌&&◌, nat_eq, true, ℕ, IfOk};
-ghost use Rattle.rz_aset.specs.Sets.{HasExactly, has};
+ghost use Rattle.std.specs.Prelude.{◌≡◌, ◌&&◌, nat_eq, true, ℕ, IfOk, OnOk};
+ghost use Rattle.rz_aset.specs.Sets.{HasExactly, has, with_addresses};
 ghost use Rattle.rz_paths.specs.Bodies.{is_inner_at, inner_next_at, is_in, function_at, calls, InBody, InFunctions};
 ghost use Rattle.rz_paths.specs.Calls.Brought.{called_among, InBrought};
 
@@ -56,11 +56,18 @@ fn bodies_from<P: Program>(
         let start = starts.as_slice()[followed];
         let body = body_of(alloc, program, passing, classes, start)?;
         let called = callees(alloc, program, passing, recorded, body.as_slice())?;
-        bodies.insert_all(body.as_slice())?;
+        add_set(&mut bodies, body)?;
         starts.insert_all(&called)?;
         followed += 1;
     }
     Ok(bodies)
+}
+
+// Adds the members of a set, which is used up.
+fn add_set(to: &mut AddrSet, from: AddrSet) -> Result<(), OutOfMemory>
+    ensures { OnOk result (to.new ≡ with_addresses to.old from) }
+{
+    to.insert_all(from.as_slice())
 }
 
 // The body of the listed function that starts at an address.

@@ -13,7 +13,7 @@ loop-followed-preserved g c =
     let starts = c.loop-followed.starts in
     let k = c.loop-followed.followed in
     let lt : k < length starts = omega (arith, c.len.ensures.len) in
-    rw (c.in_ok-insert_all-3.ensures.ok, c.in_ok-insert_all-2.ensures.ok, c.deref-in-loop-followed.ensures.value, c.as_slice-in-loop-followed-3.ensures.value)
+    rw (c.in_ok-insert_all-2.ensures.ok, c.in_ok-add_set.ensures, c.deref-in-loop-followed.ensures.value)
     (bringing_step _ _ _ _ _ starts c.loop-followed.bodies c.in_ok-body.body c.in_ok-called.called.items k (get_or starts k 0) (slice_get-get_or starts k 0 lt)
     (rw c.as_slice-in-loop-followed.ensures.value at c.in_ok-body.ensures)
     (rw c.as_slice-in-loop-followed-2.ensures.value at c.in_ok-called.ensures) c.loop-followed.invariant)
