@@ -1,6 +1,8 @@
 /* Copies its standard input to its standard output; with an argument, in upper case.
 
-   gcc -O2 -static -nostdlib -mgeneral-regs-only -fno-stack-protector -o shout shout.c */
+   gcc -O2 -static -nostdlib -mgeneral-regs-only -fno-stack-protector -o shout shout.c
+
+   docs/GUIDE.md says what each flag is for, and goes on with it. */
 
 /* The start: Linux puts argc and argv on the stack, and nothing comes back from exit. */
 __asm__(".globl _start\n"
