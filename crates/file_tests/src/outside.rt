@@ -80,7 +80,7 @@ fn listed_calls_of_a_store_fail(rt: HostRuntime) -> Result<(), Fail> {
     );
     assert_eq!(rt; store.get("b"), Some([6, 7].as_slice()));
     assert_eq!(rt; write(rt.alloc(), &mut store, "b", &bytes), Ok(()));
-    assert_eq!(rt; store.get("b"), Some(bytes.as_slice()));
+    assert_eq!(rt; store.get("b"), Some([6, 7, 8, 9, 10].as_slice()));
     assert_eq!(rt; store.get("a"), Some([1, 2, 3, 4, 5].as_slice()));
     Ok(())
 }
