@@ -8,9 +8,9 @@ use rz_outside::{
 };
 use std::alloc::{AllocGlobal, Global};
 use std::fmt::Display;
-use std::fs;
+use std::fs::{self, Permissions};
 use std::io::{self, Print};
-use std::os::unix::fs::PermissionsExt;
+use std::os::unix::fs::{PermissionsExt, symlink};
 use std::process::Abort;
 use std::test::Fail;
 
@@ -181,6 +181,48 @@ fn new_elf_files_may_be_executed(rt: HostRuntime) -> Result<(), Fail> {
     assert_eq!(rt; kept, text);
     fs::remove_file(&rt, "rz_outside_elf")?;
     fs::remove_file(&rt, "rz_outside_text")?;
+    Ok(())
+}
+
+// What a file holds after a write to it, which may fail.
+fn held_after(
+    rt: &HostRuntime,
+    store: &mut DirStore<'_, HostRuntime>,
+    name: &str,
+    bytes: &[u8],
+) -> Result<(Result<(), WriteErr>, Bytes), Fail> {
+    let text = Text::from_slice(rt.alloc(), name)?;
+    let written = store.write_all(rt.alloc(), &text, &Bytes::from_slice(rt.alloc(), bytes)?);
+    Ok((written, store.read_all(rt.alloc(), &text, 99)?))
+}
+
+#[test]
+fn a_plain_file_is_replaced_and_keeps_its_mode(rt: HostRuntime) -> Result<(), Fail> {
+    let name = "rz_outside_replaced";
+    let mut store = DirStore::new(rt.alloc(), &rt);
+    mode_after(&rt, &mut store, name, &[1, 2, 3])?;
+    fs::set_permissions(&rt, name, Permissions::from_mode(0o640))?;
+    let mode = mode_after(&rt, &mut store, name, &[0x7f, 0x45, 0x4c, 0x46])?;
+    assert_eq!(rt; mode & 0o777, 0o640);
+    assert!(rt; !fs::exists(&rt, "rz_outside_replaced.razor-0")?);
+    fs::set_permissions(&rt, name, Permissions::from_mode(0o440))?;
+    let (written, held) = held_after(&rt, &mut store, name, &[4])?;
+    assert_eq!(rt; written, Err(WriteErr::Failed));
+    assert_eq!(rt; held.as_slice(), [0x7f, 0x45, 0x4c, 0x46].as_slice());
+    fs::remove_file(&rt, name)?;
+    Ok(())
+}
+
+#[test]
+fn a_link_is_written_through(rt: HostRuntime) -> Result<(), Fail> {
+    let mut store = DirStore::new(rt.alloc(), &rt);
+    symlink(&rt, "rz_outside_behind", "rz_outside_link")?;
+    let (written, held) = held_after(&rt, &mut store, "rz_outside_link", &[5, 6])?;
+    assert_eq!(rt; written, Ok(()));
+    assert_eq!(rt; held.as_slice(), [5, 6].as_slice());
+    assert!(rt; fs::metadata(&rt, "rz_outside_behind")?.is_file());
+    fs::remove_file(&rt, "rz_outside_link")?;
+    fs::remove_file(&rt, "rz_outside_behind")?;
     Ok(())
 }
 

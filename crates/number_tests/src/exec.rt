@@ -7,6 +7,7 @@ ghost use Rattle.rz_isa.specs.declared.instruction.Reg.TheVariants as regs;
 use rz_exec::{Cpu, Fault, exec_plain};
 use rz_flags::{ArithOp, Flags, ScanOp};
 use rz_image::memory::Memory;
+use rz_image::padded::Padded;
 use rz_image::perm::Perm;
 use rz_image::region::Region;
 use rz_isa::{Insn, Mem, Operand, Place, Reg};
@@ -31,7 +32,7 @@ fn memory(alloc: Global) -> Result<Memory, OutOfMemory> {
     let mut regions = Vec::new(alloc);
     regions.push(Region {
         base: 0x1000,
-        bytes: Bytes::from_vec(bytes),
+        bytes: Padded::from_bytes(Bytes::from_vec(bytes)),
         opened: 300,
         perm: Perm::of_flags(6),
     })?;

@@ -4,6 +4,7 @@ ghost use Rattle.std.specs.Prelude.{◌≡◌, IfOk};
 ghost use Rattle.number_tests.specs.Calls.CodeAndData.{code_and_data};
 
 use rz_image::memory::Memory;
+use rz_image::padded::Padded;
 use rz_image::perm::Perm;
 use rz_image::region::{Region, Touch};
 use rz_num::{Bytes, OutOfMemory, Width};
@@ -17,13 +18,13 @@ fn two_regions(alloc: Global) -> Result<Memory, OutOfMemory>
     let mut regions = Vec::new(alloc);
     regions.push(Region {
         base: 0x1000,
-        bytes: Bytes::from_slice(alloc, &[1, 2, 3, 4])?,
+        bytes: Padded::from_bytes(Bytes::from_slice(alloc, &[1, 2, 3, 4])?),
         opened: 4,
         perm: Perm::of_flags(5),
     })?;
     regions.push(Region {
         base: 0x1004,
-        bytes: Bytes::from_slice(alloc, &[5, 6, 0, 0])?,
+        bytes: Padded::from_bytes(Bytes::from_slice(alloc, &[5, 6, 0, 0])?),
         opened: 2,
         perm: Perm::of_flags(6),
     })?;

@@ -11,6 +11,7 @@ use rz_num::{Width, mask};
 
 /// The value of an operation on two operands, which are cut to the width, and the flags after it. The value of CMP is
 /// the difference (Intel SDM, volume 2, "ADD", "OR", "ADC", "SBB", "AND", "SUB", "XOR", "CMP"). It takes no memory.
+#[inline(always)]
 pub fn arith(op: ArithOp, w: Width, a: u64, b: u64, flags: Flags) -> (u64, Flags)
     ensures value { result.0 ≡ (arith op w a b flags).value }
     ensures flags { result.1 ≡ (arith op w a b flags).flags }
@@ -28,6 +29,7 @@ pub fn arith(op: ArithOp, w: Width, a: u64, b: u64, flags: Flags) -> (u64, Flags
     }
 }
 
+#[inline(always)]
 fn logic(w: Width, value: u64, flags: Flags) -> (u64, Flags)
     ensures value { result.0 ≡ (logic w value flags).value }
     ensures flags { result.1 ≡ (logic w value flags).flags }
@@ -37,6 +39,7 @@ fn logic(w: Width, value: u64, flags: Flags) -> (u64, Flags)
 
 /// The value of an operation on one operand, which is cut to the width, and the flags after it: INC and DEC leave CF,
 /// and NOT leaves all (Intel SDM, volume 2, "INC", "DEC", "NOT", "NEG"). It takes no memory.
+#[inline(always)]
 pub fn unary(op: UnaryOp, w: Width, a: u64, flags: Flags) -> (u64, Flags)
     ensures value { result.0 ≡ (unary op w a flags).value }
     ensures flags { result.1 ≡ (unary op w a flags).flags }
@@ -50,6 +53,7 @@ pub fn unary(op: UnaryOp, w: Width, a: u64, flags: Flags) -> (u64, Flags)
     }
 }
 
+#[inline(always)]
 fn keep_carry(answer: (u64, Flags), cf: bool) -> (u64, Flags)
     ensures value { result.0 ≡ answer.0 }
     ensures flags { result.1 ≡ record answer.1 { cf = cf } }

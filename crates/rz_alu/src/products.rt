@@ -12,6 +12,7 @@ use rz_num::{Width, div_wide, mul_wide};
 /// The low half and the high half of the product of two operands, which are cut to the width, and the flags after it: CF
 /// and OF are set where the product doesn't fit the width, and the others are left
 /// (Intel SDM, volume 2, "MUL", "IMUL"). It takes no memory.
+#[inline(always)]
 pub fn mul(w: Width, signed: bool, a: u64, b: u64, flags: Flags) -> (u64, u64, Flags)
     ensures low { result.0 ≡ product w signed (low_bits w a) (low_bits w b) % size w }
     ensures high { result.1 ≡ product w signed (low_bits w a) (low_bits w b) / size w }
@@ -24,6 +25,7 @@ pub fn mul(w: Width, signed: bool, a: u64, b: u64, flags: Flags) -> (u64, u64, F
 }
 
 // The high half that extends a low half.
+#[inline(always)]
 fn extension(w: Width, signed: bool, low: u64) -> u64
     ensures { result ≡ extension w signed low }
 {

@@ -11,6 +11,7 @@ use rz_num::{Width, mask};
 /// The value of a rotate or shift of an operand, which is cut to the width, by a count, which is masked, and the flags
 /// after it. A masked count of 0 leaves value and flags
 /// (Intel SDM, volume 2, "RCL/RCR/ROL/ROR", "SAL/SAR/SHL/SHR"). It takes no memory.
+#[inline(always)]
 pub fn shift(op: ShiftOp, w: Width, a: u64, count: u8, flags: Flags) -> (u64, Flags)
     ensures value { result.0 ≡ (shift op w a count flags).value }
     ensures flags { result.1 ≡ (shift op w a count flags).flags }
@@ -30,6 +31,7 @@ pub fn shift(op: ShiftOp, w: Width, a: u64, count: u8, flags: Flags) -> (u64, Fl
 }
 
 // The bits of a count that are used.
+#[inline(always)]
 pub(crate) fn used_count(w: Width, count: u8) -> u32
     ensures { result ≡ used_count w count }
 {
@@ -76,6 +78,7 @@ fn rotate_right(w: Width, a: u64, n: u32, flags: Flags) -> (u64, Flags)
     (value, with_carry_overflow(cf, cf != second, flags))
 }
 
+#[inline(always)]
 fn shift_left(w: Width, a: u64, n: u32, flags: Flags) -> (u64, Flags)
     requires a { a < size w }
     requires n { n < 64 }
@@ -91,6 +94,7 @@ fn shift_left(w: Width, a: u64, n: u32, flags: Flags) -> (u64, Flags)
     )
 }
 
+#[inline(always)]
 fn shift_right(w: Width, a: u64, n: u32, flags: Flags) -> (u64, Flags)
     requires a { a < size w }
     requires some { 0 < n }
@@ -103,6 +107,7 @@ fn shift_right(w: Width, a: u64, n: u32, flags: Flags) -> (u64, Flags)
     (value, flags_of(w, value, cf, top_bit(w, a), false, flags))
 }
 
+#[inline(always)]
 fn shift_signed(w: Width, a: u64, n: u32, flags: Flags) -> (u64, Flags)
     requires a { a < size w }
     requires some { 0 < n }
@@ -117,6 +122,7 @@ fn shift_signed(w: Width, a: u64, n: u32, flags: Flags) -> (u64, Flags)
 }
 
 // A number with so many copies of its top bit above it.
+#[inline(always)]
 fn sign_above(w: Width, n: u32, a: u64) -> u128
     requires a { a < size w }
     requires n { n < 64 }

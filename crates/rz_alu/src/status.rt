@@ -7,6 +7,7 @@ use rz_flags::Flags;
 use rz_num::Width;
 
 // Whether the top bit of a number of the width is set.
+#[inline(always)]
 pub(crate) fn top_bit(w: Width, a: u64) -> bool
     ensures { result ≡ top_bit w a }
 {
@@ -14,6 +15,7 @@ pub(crate) fn top_bit(w: Width, a: u64) -> bool
 }
 
 // The flags of a result, with CF, OF and AF as they are given.
+#[inline(always)]
 pub(crate) fn flags_of(w: Width, value: u64, cf: bool, of: bool, af: bool, old: Flags) -> Flags
     ensures { result ≡ flags_of w value cf of af old }
 {
@@ -29,6 +31,7 @@ pub(crate) fn flags_of(w: Width, value: u64, cf: bool, of: bool, af: bool, old: 
 }
 
 // The flags with CF and OF as they are given.
+#[inline(always)]
 pub(crate) fn with_carry_overflow(cf: bool, of: bool, old: Flags) -> Flags
     ensures { result ≡ with_carry_overflow cf of old }
 {

@@ -12,6 +12,7 @@ use rz_num::{Width, add_carry, sub_borrow};
 
 // The sum of two numbers and a carry, and the flags after it.
 #[tactic(auto, using(crate::proofs::WidthLaws::cut_same))]
+#[inline(always)]
 pub(crate) fn add(w: Width, a: u64, b: u64, carry: bool, flags: Flags) -> (u64, Flags)
     requires a { a < size w }
     requires b { b < size w }
@@ -26,6 +27,7 @@ pub(crate) fn add(w: Width, a: u64, b: u64, carry: bool, flags: Flags) -> (u64, 
 
 // The difference of two numbers, less a borrow, and the flags after it.
 #[tactic(auto, using(crate::proofs::WidthLaws::cut_same))]
+#[inline(always)]
 pub(crate) fn subtract(w: Width, a: u64, b: u64, borrow: bool, flags: Flags) -> (u64, Flags)
     requires a { a < size w }
     requires b { b < size w }
@@ -39,6 +41,7 @@ pub(crate) fn subtract(w: Width, a: u64, b: u64, borrow: bool, flags: Flags) -> 
 }
 
 // Whether the sum of the signed numbers doesn't fit: both have one sign, and the sum the other.
+#[inline(always)]
 fn sum_overflow(w: Width, a: u64, b: u64, carry: bool, sum: u64) -> bool
     requires a { a < size w }
     requires b { b < size w }
@@ -49,6 +52,7 @@ fn sum_overflow(w: Width, a: u64, b: u64, carry: bool, sum: u64) -> bool
 }
 
 // Whether the difference of the signed numbers doesn't fit: they have two signs, and the difference that of the second.
+#[inline(always)]
 fn difference_overflow(w: Width, a: u64, b: u64, borrow: bool, difference: u64) -> bool
     requires a { a < size w }
     requires b { b < size w }
@@ -59,6 +63,7 @@ fn difference_overflow(w: Width, a: u64, b: u64, borrow: bool, difference: u64) 
 }
 
 // The carry out of bit 3.
+#[inline(always)]
 fn low_carry(a: u64, b: u64, carry: bool) -> bool
     ensures { result ≡ sum_carries_low a b carry }
 {
@@ -66,6 +71,7 @@ fn low_carry(a: u64, b: u64, carry: bool) -> bool
 }
 
 // The borrow into bit 3.
+#[inline(always)]
 fn low_borrow(a: u64, b: u64, borrow: bool) -> bool
     ensures { result ≡ difference_borrows_low a b borrow }
 {

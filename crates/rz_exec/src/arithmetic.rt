@@ -23,18 +23,19 @@ pub(crate) fn is_written(op: ArithOp) -> bool
 
 // An operation on two operands, which writes the first or only the flags.
 #[tactic(auto, unfolding(crate::specs::Form::carry))]
+#[inline(always)]
 pub(crate) fn binary(
     written: bool,
     op: ArithOp,
     w: Width,
-    dst: Place,
-    src: Operand,
+    dst: &Place,
+    src: &Operand,
     cpu: &mut Cpu,
     mem: &mut Memory,
 ) -> Result<(), Fault>
-    requires dst { IsTrue (is_named_place dst) }
-    requires src { IsTrue (is_named_operand src) }
-    ensures done { ended cpu.new mem.new result ≡ carried (binary_effect written op w dst src) cpu.old mem.old }
+    requires dst { IsTrue (is_named_place dst.now) }
+    requires src { IsTrue (is_named_operand src.now) }
+    ensures done { ended cpu.new mem.new result ≡ carried (binary_effect written op w dst.now src.now) cpu.old mem.old }
     ensures rip { cpu.new.rip ≡ cpu.old.rip }
 {
     let at = address_of(&cpu.regs, dst);
@@ -52,15 +53,16 @@ pub(crate) fn binary(
 }
 
 #[tactic(auto, unfolding(crate::specs::Form::carry))]
+#[inline(always)]
 pub(crate) fn one_operand(
     op: UnaryOp,
     w: Width,
-    dst: Place,
+    dst: &Place,
     cpu: &mut Cpu,
     mem: &mut Memory,
 ) -> Result<(), Fault>
-    requires { IsTrue (is_named_place dst) }
-    ensures done { ended cpu.new mem.new result ≡ carried (unary_effect op w dst) cpu.old mem.old }
+    requires { IsTrue (is_named_place dst.now) }
+    ensures done { ended cpu.new mem.new result ≡ carried (unary_effect op w dst.now) cpu.old mem.old }
     ensures rip { cpu.new.rip ≡ cpu.old.rip }
 {
     let at = address_of(&cpu.regs, dst);

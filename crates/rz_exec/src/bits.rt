@@ -36,14 +36,14 @@ fn is_changed(op: BitOp) -> bool
 pub(crate) fn bit_test(
     op: BitOp,
     w: Width,
-    dst: Place,
+    dst: &Place,
     index: BitIndex,
     cpu: &mut Cpu,
     mem: &mut Memory,
 ) -> Result<(), Fault>
-    requires dst { IsTrue (is_named_place dst) }
+    requires dst { IsTrue (is_named_place dst.now) }
     requires index { IsTrue (is_named_index index) }
-    ensures done { ended cpu.new mem.new result ≡ carried (bit_test_effect op w dst index) cpu.old mem.old }
+    ensures done { ended cpu.new mem.new result ≡ carried (bit_test_effect op w dst.now index) cpu.old mem.old }
     ensures rip { cpu.new.rip ≡ cpu.old.rip }
 {
     let at = address_of(&cpu.regs, dst);
@@ -73,13 +73,13 @@ pub(crate) fn scan(
     op: ScanOp,
     w: Width,
     dst: u8,
-    src: Place,
+    src: &Place,
     cpu: &mut Cpu,
     mem: &Memory,
 ) -> Result<(), Fault>
     requires dst { IsTrue (is_reg dst) }
-    requires src { IsTrue (is_named_place src) }
-    ensures done { ended cpu.new mem.now result ≡ carried (scan_effect op w dst src) cpu.old mem.now }
+    requires src { IsTrue (is_named_place src.now) }
+    ensures done { ended cpu.new mem.now result ≡ carried (scan_effect op w dst src.now) cpu.old mem.now }
     ensures rip { cpu.new.rip ≡ cpu.old.rip }
 {
     let word = read(mem, w, address_of(&cpu.regs, src))?;

@@ -20,13 +20,13 @@ pub(crate) fn cmov(
     cond: Cond,
     w: Width,
     dst: u8,
-    src: Place,
+    src: &Place,
     cpu: &mut Cpu,
     mem: &Memory,
 ) -> Result<(), Fault>
     requires dst { IsTrue (is_reg dst) }
-    requires src { IsTrue (is_named_place src) }
-    ensures done { ended cpu.new mem.now result ≡ carried (cmov_effect cond w dst src) cpu.old mem.now }
+    requires src { IsTrue (is_named_place src.now) }
+    ensures done { ended cpu.new mem.now result ≡ carried (cmov_effect cond w dst src.now) cpu.old mem.now }
     ensures rip { cpu.new.rip ≡ cpu.old.rip }
 {
     let word = read(mem, w, address_of(&cpu.regs, src))?;
@@ -40,9 +40,9 @@ pub(crate) fn cmov(
 }
 
 #[tactic(auto, unfolding(crate::specs::Form::carry))]
-pub(crate) fn set(cond: Cond, dst: Place, cpu: &mut Cpu, mem: &mut Memory) -> Result<(), Fault>
-    requires { IsTrue (is_named_place dst) }
-    ensures done { ended cpu.new mem.new result ≡ carried (set_effect cond dst) cpu.old mem.old }
+pub(crate) fn set(cond: Cond, dst: &Place, cpu: &mut Cpu, mem: &mut Memory) -> Result<(), Fault>
+    requires { IsTrue (is_named_place dst.now) }
+    ensures done { ended cpu.new mem.new result ≡ carried (set_effect cond dst.now) cpu.old mem.old }
     ensures rip { cpu.new.rip ≡ cpu.old.rip }
 {
     let value = if holds(cond, cpu.flags) { 1 } else { 0 };

@@ -17,14 +17,14 @@ use rz_num::Width;
 #[tactic(auto, unfolding(crate::specs::Form::carry))]
 pub(crate) fn xchg(
     w: Width,
-    dst: Place,
+    dst: &Place,
     src: Reg,
     cpu: &mut Cpu,
     mem: &mut Memory,
 ) -> Result<(), Fault>
-    requires dst { IsTrue (is_named_place dst) }
+    requires dst { IsTrue (is_named_place dst.now) }
     requires src { IsTrue (is_named_reg src) }
-    ensures done { ended cpu.new mem.new result ≡ carried (xchg_effect w dst src) cpu.old mem.old }
+    ensures done { ended cpu.new mem.new result ≡ carried (xchg_effect w dst.now src) cpu.old mem.old }
     ensures rip { cpu.new.rip ≡ cpu.old.rip }
 {
     let at = address_of(&cpu.regs, dst);

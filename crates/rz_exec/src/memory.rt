@@ -10,6 +10,7 @@ use rz_image::memory::Memory;
 use rz_num::Width;
 
 // The word at an address; 0 where there is none.
+#[inline(always)]
 pub fn read(mem: &Memory, w: Width, at: Option<u64>) -> Result<u64, Fault>
     ensures ok { IfOk result (λ word. read_word mem.now (word_at w at) ≡ Ok word) }
     ensures err { IfErr result (λ fault. read_word mem.now (word_at w at) ≡ Err (exception_of fault)) }
@@ -24,6 +25,7 @@ pub fn read(mem: &Memory, w: Width, at: Option<u64>) -> Result<u64, Fault>
 }
 
 // Writes a word at an address, where there is one.
+#[inline(always)]
 pub fn write(mem: &mut Memory, w: Width, at: Option<u64>, word: u64) -> Result<(), Fault>
     ensures ok { OnOk result (write_word mem.old (word_at w at) word ≡ Ok mem.new) }
     ensures err { IfErr result (λ fault. write_word mem.old (word_at w at) word ≡ Err (exception_of fault)) }

@@ -22,16 +22,17 @@ const RAX: u8 = 0;
 const RDX: u8 = 2;
 
 #[tactic(auto, unfolding(crate::specs::Form::carry))]
+#[inline(always)]
 pub(crate) fn mov(
     w: Width,
-    dst: Place,
-    src: Operand,
+    dst: &Place,
+    src: &Operand,
     cpu: &mut Cpu,
     mem: &mut Memory,
 ) -> Result<(), Fault>
-    requires dst { IsTrue (is_named_place dst) }
-    requires src { IsTrue (is_named_operand src) }
-    ensures done { ended cpu.new mem.new result ≡ carried (mov_effect w dst src) cpu.old mem.old }
+    requires dst { IsTrue (is_named_place dst.now) }
+    requires src { IsTrue (is_named_operand src.now) }
+    ensures done { ended cpu.new mem.new result ≡ carried (mov_effect w dst.now src.now) cpu.old mem.old }
     ensures rip { cpu.new.rip ≡ cpu.old.rip }
 {
     let word = read(mem, w, operand_address(&cpu.regs, src))?;
@@ -41,15 +42,17 @@ pub(crate) fn mov(
     Ok(())
 }
 
-pub(crate) fn lea(w: Width, dst: u8, src: Place, regs: &mut [u64; 16])
+#[inline(always)]
+pub(crate) fn lea(w: Width, dst: u8, src: &Place, regs: &mut [u64; 16])
     requires dst { IsTrue (is_reg dst) }
-    requires src { IsTrue (is_named_place src) }
-    ensures { regs.new ≡ with_reg w regs.old dst (unwrap_or (address_at regs.old src) 0) }
+    requires src { IsTrue (is_named_place src.now) }
+    ensures { regs.new ≡ with_reg w regs.old dst (unwrap_or (address_at regs.old src.now) 0) }
 {
     let address = address_of(regs, src).unwrap_or(0);
     put_reg(w, regs, dst, address);
 }
 
+#[inline(always)]
 fn extended(signed: bool, from: Width, value: u64) -> u64
     ensures { result ≡ extended_of signed from value }
 {
@@ -61,18 +64,19 @@ fn extended(signed: bool, from: Width, value: u64) -> u64
 }
 
 #[tactic(auto, unfolding(crate::specs::Form::carry))]
+#[inline(always)]
 pub(crate) fn extend(
     signed: bool,
     to: Width,
     from: Width,
     dst: u8,
-    src: Place,
+    src: &Place,
     cpu: &mut Cpu,
     mem: &Memory,
 ) -> Result<(), Fault>
     requires dst { IsTrue (is_reg dst) }
-    requires src { IsTrue (is_named_place src) }
-    ensures done { ended cpu.new mem.now result ≡ carried (extend_effect signed to from dst src) cpu.old mem.now }
+    requires src { IsTrue (is_named_place src.now) }
+    ensures done { ended cpu.new mem.now result ≡ carried (extend_effect signed to from dst src.now) cpu.old mem.now }
     ensures rip { cpu.new.rip ≡ cpu.old.rip }
 {
     let word = read(mem, from, address_of(&cpu.regs, src))?;

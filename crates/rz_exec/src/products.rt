@@ -76,12 +76,12 @@ fn divide(signed: bool, w: Width, value: u64, regs: &[u64; 16]) -> Option<(u64, 
 pub(crate) fn wide(
     op: WideOp,
     w: Width,
-    src: Place,
+    src: &Place,
     cpu: &mut Cpu,
     mem: &Memory,
 ) -> Result<(), Fault>
-    requires { IsTrue (is_named_place src) }
-    ensures done { ended cpu.new mem.now result ≡ carried (wide_effect op w src) cpu.old mem.now }
+    requires { IsTrue (is_named_place src.now) }
+    ensures done { ended cpu.new mem.now result ≡ carried (wide_effect op w src.now) cpu.old mem.now }
     ensures rip { cpu.new.rip ≡ cpu.old.rip }
 {
     let word = read(mem, w, address_of(&cpu.regs, src))?;
@@ -110,10 +110,16 @@ fn multiply_into(w: Width, dst: u8, a: u64, b: u64, cpu: &mut Cpu)
 }
 
 #[tactic(auto, unfolding(crate::specs::Form::carry))]
-pub(crate) fn imul2(w: Width, dst: u8, src: Place, cpu: &mut Cpu, mem: &Memory) -> Result<(), Fault>
+pub(crate) fn imul2(
+    w: Width,
+    dst: u8,
+    src: &Place,
+    cpu: &mut Cpu,
+    mem: &Memory,
+) -> Result<(), Fault>
     requires dst { IsTrue (is_reg dst) }
-    requires src { IsTrue (is_named_place src) }
-    ensures done { ended cpu.new mem.now result ≡ carried (imul2_effect w dst src) cpu.old mem.now }
+    requires src { IsTrue (is_named_place src.now) }
+    ensures done { ended cpu.new mem.now result ≡ carried (imul2_effect w dst src.now) cpu.old mem.now }
     ensures rip { cpu.new.rip ≡ cpu.old.rip }
 {
     let word = read(mem, w, address_of(&cpu.regs, src))?;
@@ -126,14 +132,14 @@ pub(crate) fn imul2(w: Width, dst: u8, src: Place, cpu: &mut Cpu, mem: &Memory) 
 pub(crate) fn imul3(
     w: Width,
     dst: u8,
-    src: Place,
+    src: &Place,
     imm: u64,
     cpu: &mut Cpu,
     mem: &Memory,
 ) -> Result<(), Fault>
     requires dst { IsTrue (is_reg dst) }
-    requires src { IsTrue (is_named_place src) }
-    ensures done { ended cpu.new mem.now result ≡ carried (imul3_effect w dst src imm) cpu.old mem.now }
+    requires src { IsTrue (is_named_place src.now) }
+    ensures done { ended cpu.new mem.now result ≡ carried (imul3_effect w dst src.now imm) cpu.old mem.now }
     ensures rip { cpu.new.rip ≡ cpu.old.rip }
 {
     let word = read(mem, w, address_of(&cpu.regs, src))?;

@@ -8,6 +8,7 @@ use rz_isa::Reg;
 use rz_num::{Width, mask};
 
 // The low bits of the register of a number.
+#[inline(always)]
 pub(crate) fn get_reg(w: Width, regs: &[u64; 16], n: u8) -> u64
     requires { IsTrue (is_reg n) }
     ensures { result ≡ reg_value w regs.now n }
@@ -16,6 +17,7 @@ pub(crate) fn get_reg(w: Width, regs: &[u64; 16], n: u8) -> u64
 }
 
 // Writes the register of a number: 32 bits clear the upper half, 8 and 16 bits leave the rest.
+#[inline(always)]
 pub fn put_reg(w: Width, regs: &mut [u64; 16], n: u8, value: u64)
     requires { IsTrue (is_reg n) }
     ensures { regs.new ≡ with_reg w regs.old n value }
@@ -23,6 +25,7 @@ pub fn put_reg(w: Width, regs: &mut [u64; 16], n: u8, value: u64)
     regs[n as usize] = merge(w, regs[n as usize], value);
 }
 
+#[inline(always)]
 fn merge(w: Width, old: u64, value: u64) -> u64
     ensures { result ≡ merge_of w old value }
 {
@@ -32,6 +35,7 @@ fn merge(w: Width, old: u64, value: u64) -> u64
     }
 }
 
+#[inline(always)]
 pub(crate) fn get_named(w: Width, regs: &[u64; 16], reg: Reg) -> u64
     requires { IsTrue (is_named_reg reg) }
     ensures { result ≡ named_value w regs.now reg }
@@ -42,6 +46,7 @@ pub(crate) fn get_named(w: Width, regs: &[u64; 16], reg: Reg) -> u64
     }
 }
 
+#[inline(always)]
 pub(crate) fn put_named(w: Width, regs: &mut [u64; 16], reg: Reg, value: u64)
     requires { IsTrue (is_named_reg reg) }
     ensures { regs.new ≡ with_named w regs.old reg value }

@@ -27,13 +27,13 @@ fn count_in(regs: &[u64; 16], count: Count) -> u8
 pub(crate) fn shift(
     op: ShiftOp,
     w: Width,
-    dst: Place,
+    dst: &Place,
     count: Count,
     cpu: &mut Cpu,
     mem: &mut Memory,
 ) -> Result<(), Fault>
-    requires { IsTrue (is_named_place dst) }
-    ensures done { ended cpu.new mem.new result ≡ carried (shift_effect op w dst count) cpu.old mem.old }
+    requires { IsTrue (is_named_place dst.now) }
+    ensures done { ended cpu.new mem.new result ≡ carried (shift_effect op w dst.now count) cpu.old mem.old }
     ensures rip { cpu.new.rip ≡ cpu.old.rip }
 {
     let at = address_of(&cpu.regs, dst);
@@ -50,15 +50,15 @@ pub(crate) fn shift(
 pub(crate) fn double_shift(
     left: bool,
     w: Width,
-    dst: Place,
+    dst: &Place,
     src: u8,
     count: Count,
     cpu: &mut Cpu,
     mem: &mut Memory,
 ) -> Result<(), Fault>
-    requires dst { IsTrue (is_named_place dst) }
+    requires dst { IsTrue (is_named_place dst.now) }
     requires src { IsTrue (is_reg src) }
-    ensures done { ended cpu.new mem.new result ≡ carried (double_effect left w dst src count) cpu.old mem.old }
+    ensures done { ended cpu.new mem.new result ≡ carried (double_effect left w dst.now src count) cpu.old mem.old }
     ensures rip { cpu.new.rip ≡ cpu.old.rip }
 {
     let at = address_of(&cpu.regs, dst);

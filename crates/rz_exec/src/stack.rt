@@ -34,9 +34,9 @@ fn pop_from(top: u64, regs: &mut [u64; 16])
 }
 
 #[tactic(auto, unfolding(crate::specs::Form::carry))]
-pub(crate) fn push(src: Operand, cpu: &mut Cpu, mem: &mut Memory) -> Result<(), Fault>
-    requires { IsTrue (is_named_operand src) }
-    ensures done { ended cpu.new mem.new result ≡ carried (push_effect src) cpu.old mem.old }
+pub(crate) fn push(src: &Operand, cpu: &mut Cpu, mem: &mut Memory) -> Result<(), Fault>
+    requires { IsTrue (is_named_operand src.now) }
+    ensures done { ended cpu.new mem.new result ≡ carried (push_effect src.now) cpu.old mem.old }
     ensures rip { cpu.new.rip ≡ cpu.old.rip }
 {
     let word = read(mem, Width::W64, operand_address(&cpu.regs, src))?;
@@ -48,9 +48,9 @@ pub(crate) fn push(src: Operand, cpu: &mut Cpu, mem: &mut Memory) -> Result<(), 
 }
 
 // The address of a place after the word at the top is popped.
-fn address_after_pop(top: u64, regs: &[u64; 16], place: Place) -> Option<u64>
-    requires { IsTrue (is_named_place place) }
-    ensures { result ≡ address_at (popped top regs.now) place }
+fn address_after_pop(top: u64, regs: &[u64; 16], place: &Place) -> Option<u64>
+    requires { IsTrue (is_named_place place.now) }
+    ensures { result ≡ address_at (popped top regs.now) place.now }
 {
     if matches!(place, Place::Reg(_)) {
         return None;
@@ -61,9 +61,9 @@ fn address_after_pop(top: u64, regs: &[u64; 16], place: Place) -> Option<u64>
 }
 
 #[tactic(auto, unfolding(crate::specs::Form::carry))]
-pub(crate) fn pop(dst: Place, cpu: &mut Cpu, mem: &mut Memory) -> Result<(), Fault>
-    requires { IsTrue (is_named_place dst) }
-    ensures done { ended cpu.new mem.new result ≡ carried (pop_effect dst) cpu.old mem.old }
+pub(crate) fn pop(dst: &Place, cpu: &mut Cpu, mem: &mut Memory) -> Result<(), Fault>
+    requires { IsTrue (is_named_place dst.now) }
+    ensures done { ended cpu.new mem.new result ≡ carried (pop_effect dst.now) cpu.old mem.old }
     ensures rip { cpu.new.rip ≡ cpu.old.rip }
 {
     let top = cpu.regs[4];

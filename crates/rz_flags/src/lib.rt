@@ -165,6 +165,7 @@ impl Cond {
 }
 
 /// Whether a condition holds of the flags (Intel SDM, volume 2, appendix B.1, "Condition Test Field").
+#[inline(always)]
 pub fn holds(cond: Cond, flags: Flags) -> bool
     ensures { result ≡ holds_for cond flags }
 {

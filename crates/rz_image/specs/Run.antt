@@ -34,3 +34,12 @@ pub record IsRun (access : Access) (m : Regions) (a : ℕ) (bytes : List ℕ) : 
   pub same : (k : ℕ) → k < length bytes → (cell_at m (a + k)).byte ≡ slice_index bytes k
   pub fits : a + length bytes ≤ 2 ^ 64
   pub none : length bytes ≡ 0 → allows access (cell_at m a) ≡ false
+
+-- there are so many bytes that stand from an address on and allow an access, as a run
+abbrev pub HasRun : Access → Regions → ℕ → ℕ → Type 0
+HasRun access m a n = (bytes : List ℕ) × IsRun access m a bytes × (length bytes ≡ n)
+
+-- the first bytes of others: one at least, where there is one
+pub record IsFront (front whole : List ℕ) : Type 0 where
+  pub same : front ≡ take (length front) whole
+  pub some : length front ≡ 0 → length whole ≡ 0

@@ -7,6 +7,7 @@ ghost use Rattle.rz_image.specs.Run.{HasRegion};
 use crate::region::Region;
 
 /// The number of the region that has an address. It is found by halving.
+#[inline(always)]
 pub fn region_at(regions: &[Region], at: u64) -> Option<usize>
     requires { Ascend regions.now }
     ensures some { IfSome result (λ i. HasRegion regions.now i at) }
@@ -23,8 +24,9 @@ pub fn region_at(regions: &[Region], at: u64) -> Option<usize>
     Some(index)
 }
 
+#[inline(always)]
 fn has_address(region: &Region, at: u64) -> bool
     ensures { result ≡ contains region.now at }
 {
-    region.base <= at && at - region.base < region.bytes.as_slice().len() as u64
+    region.base <= at && at - region.base < region.bytes.len() as u64
 }

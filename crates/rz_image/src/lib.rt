@@ -4,6 +4,7 @@
 mod access;
 mod find;
 pub mod memory;
+pub mod padded;
 pub mod perm;
 pub mod region;
 mod runs;

@@ -42,6 +42,7 @@ impl Memory {
 
     /// The word at an address, the low byte first; addresses wrap at 2^64. It refuses exactly where a byte may not
     /// be read, with the first such address in the order of the access.
+    #[inline(always)]
     pub fn load(&self, at: u64, width: Width) -> Result<u64, Touch>
         ensures value { IfOk result (λ word. word ≡ word_at self.now at width) }
         ensures allowed { IfOk result (λ word. refused_word is_readable self.now at width ≡ None) }
@@ -53,6 +54,7 @@ impl Memory {
     /// Writes the low bytes of a value, as many as the width has, the low byte first; addresses wrap at 2^64.
     /// It refuses exactly where a byte may not be written, with the first such address in the order of the access;
     /// then nothing is changed.
+    #[inline(always)]
     pub fn store(&mut self, at: u64, width: Width, value: u64) -> Result<(), Touch>
         ensures stored { OnOk result (self.new ≡ put_word self.old at width value) }
         ensures allowed { OnOk result (refused_word is_writable self.old at width ≡ None) }

@@ -1,13 +1,13 @@
 //! Regions of memory.
 
+use crate::padded::Padded;
 use crate::perm::Perm;
-use rz_num::Bytes;
 
 /// The bytes from an address on. The first `opened` of them can be reached.
 #[derive(Drop)]
 pub struct Region {
     pub base: u64,
-    pub bytes: Bytes,
+    pub bytes: Padded,
     pub opened: u64,
     pub perm: Perm,
 }

@@ -3,7 +3,7 @@
 ghost use Rattle.std.specs.Prelude.{◌≡◌, ◌+◌, ◌-◌, ◌^◌, ◌<◌, ◌≤◌, length, take, is_none, IfOk};
 ghost use Rattle.rz_image.specs.declared.access.Access.TheVariants.{Execute};
 ghost use Rattle.rz_image.specs.Memory.{Ascend, cell_at, bytes_at, fetch as fetch_at, refused as refused_at};
-ghost use Rattle.rz_image.specs.Run.{allows, run_in as run_of, IsRun};
+ghost use Rattle.rz_image.specs.Run.{allows, run_in as run_of, IsRun, IsFront, HasRun};
 
 use crate::access::Access;
 use crate::find::region_at;
@@ -11,7 +11,8 @@ use crate::region::Region;
 use rz_num::{Bytes, OutOfMemory};
 use std::alloc::Global;
 
-/// The bytes from an address on that its region opens to an access: none where the first doesn't allow it.
+/// Bytes from an address on that its region opens to an access: none only where the first doesn't allow it.
+#[inline(always)]
 pub fn run_at(regions: &[Region], at: u64, access: Access) -> &[u8]
     requires { Ascend regions.now }
     ensures { IsRun access regions.now at result.now }
@@ -23,16 +24,42 @@ pub fn run_at(regions: &[Region], at: u64, access: Access) -> &[u8]
     run_in(region, at - region.base, access)
 }
 
-/// The bytes from a place of a region on that are open to an access.
-pub fn run_in(region: &Region, place: u64, access: Access) -> &[u8]
+// Bytes from a place of a region on that are open to an access: at least one, where there is one.
+#[inline(always)]
+fn run_in(region: &Region, place: u64, access: Access) -> &[u8]
     requires inside { place ≤ length region.now.bytes }
     requires opened { region.now.opened ≤ length region.now.bytes }
-    ensures { result.now ≡ run_of access region.now place }
+    ensures { IsFront result.now (run_of access region.now place) }
 {
     if !access.permitted(region.perm) || region.opened <= place {
         return &[];
     }
-    &region.bytes.as_slice()[place as usize..region.opened as usize]
+    region.bytes.run(place as usize, region.opened as usize)
+}
+
+/// How many bytes from a place of a region on are open to an access.
+#[inline(always)]
+pub fn count_in(region: &Region, place: u64, access: Access) -> u64
+    requires inside { place ≤ length region.now.bytes }
+    requires opened { region.now.opened ≤ length region.now.bytes }
+    ensures { result ≡ length (run_of access region.now place) }
+{
+    if !access.permitted(region.perm) || region.opened <= place {
+        return 0;
+    }
+    region.opened - place
+}
+
+// How many bytes from an address on its region opens to an access.
+fn count_at(regions: &[Region], at: u64, access: Access) -> u64
+    requires { Ascend regions.now }
+    ensures { HasRun access regions.now at result }
+{
+    let Some(index) = region_at(regions, at) else {
+        return 0;
+    };
+    let region = &regions[index];
+    count_in(region, at - region.base, access)
 }
 
 /// The executable bytes at an address, up to the first that isn't, and at most 15: how many there are.
@@ -66,11 +93,11 @@ pub fn all_allow(regions: &[Region], at: u64, len: u64, access: Access) -> bool
 {
     let mut done: u64 = 0;
     while done < len {
-        let run = run_at(regions, at + done, access).len() as u64;
-        if run == 0 {
+        let count = count_at(regions, at + done, access);
+        if count == 0 {
             return false;
         }
-        done += run.min(len - done);
+        done += count.min(len - done);
     }
     true
 }
@@ -107,5 +134,5 @@ pub fn byte_at(regions: &[Region], at: u64) -> u8
         return 0;
     };
     let region = &regions[index];
-    region.bytes.as_slice()[(at - region.base) as usize]
+    region.bytes.byte((at - region.base) as usize)
 }

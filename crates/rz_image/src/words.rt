@@ -9,10 +9,11 @@ ghost use Rattle.rz_image.specs.Word.{byte_count as byte_count_of, put_word, ref
 use crate::access::Access;
 use crate::find::region_at;
 use crate::region::{Region, Touch};
-use crate::runs::{byte_at, run_at, run_in};
+use crate::runs::{byte_at, count_in, run_at};
 use rz_num::{Width, get_u16, get_u32, get_u64, put_u64};
 
 /// The word at an address, or the first address that may not be read.
+#[inline(always)]
 pub fn load(regions: &[Region], at: u64, width: Width) -> Result<u64, Touch>
     requires { Ascend regions.now }
     ensures value { IfOk result (λ word. word ≡ word_at regions.now at width) }
@@ -30,6 +31,7 @@ pub fn load(regions: &[Region], at: u64, width: Width) -> Result<u64, Touch>
 }
 
 /// Writes a word at an address, or changes nothing and names the first address that may not be written.
+#[inline(always)]
 pub fn store(regions: &mut [Region], at: u64, width: Width, value: u64) -> Result<(), Touch>
     requires { Ascend regions.old }
     ensures stored { OnOk result (regions.new ≡ put_word regions.old at width value) }
@@ -90,6 +92,8 @@ fn word_of(bytes: &[u8], width: Width) -> u64
 }
 
 // The first of a few addresses that doesn't allow an access.
+#[cold]
+#[inline(never)]
 fn first_refused(regions: &[Region], at: u64, len: usize, access: Access) -> Option<u64>
     requires { Ascend regions.now }
     ensures { result ≡ refused_at (allows access) regions.now at len }
@@ -104,6 +108,8 @@ fn first_refused(regions: &[Region], at: u64, len: usize, access: Access) -> Opt
 }
 
 // The eight bytes from an address on.
+#[cold]
+#[inline(never)]
 fn bytes_from(regions: &[Region], at: u64) -> [u8; 8]
     requires { Ascend regions.now }
     ensures { result ≡ bytes_at regions.now at 8 }
@@ -116,6 +122,7 @@ fn bytes_from(regions: &[Region], at: u64) -> [u8; 8]
 }
 
 /// Writes bytes where one region opens them all, and says whether it did.
+#[inline(always)]
 pub fn put_run(regions: &mut [Region], at: u64, bytes: &[u8]) -> bool
     requires ascend { Ascend regions.old }
     requires some { 0 < length bytes.now }
@@ -130,7 +137,7 @@ pub fn put_run(regions: &mut [Region], at: u64, bytes: &[u8]) -> bool
     };
     let region = &mut regions[index];
     let place = at - region.base;
-    if run_in(region, place, Access::Write).len() < bytes.len() {
+    if count_in(region, place, Access::Write) < bytes.len() as u64 {
         return false;
     }
     region.bytes.overwrite(place as usize, bytes);
@@ -149,6 +156,8 @@ pub fn store_bytes(regions: &mut [Region], at: u64, bytes: &[u8])
 }
 
 // Writes each byte that may be written.
+#[cold]
+#[inline(never)]
 fn put_each(regions: &mut [Region], at: u64, bytes: &[u8])
     requires { Ascend regions.old }
     ensures done { regions.new ≡ put_bytes regions.old at bytes.now }

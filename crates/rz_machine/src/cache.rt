@@ -35,7 +35,7 @@ pub struct DecodeCache {
 }
 
 impl DecodeCache {
-    ghost use Rattle.std.specs.Prelude.{◌≡◌, true};
+    ghost use Rattle.std.specs.Prelude.{◌≡◌, true, IfSome};
     ghost use Rattle.rz_isa.specs.Decoded.{decoded as decoded_of};
     ghost use Rattle.rz_isa.specs.Nodes.{spelled_at};
     ghost use Rattle.rz_machine.specs.Nodes.{code_in};
@@ -49,6 +49,21 @@ impl DecodeCache {
             entries: Vec::new(alloc),
             is_used: mem.are_apart(),
             misses: 0,
+        }
+    }
+
+    /// What the executable bytes at an address spell, where the cache has it. Nothing is copied.
+    #[inline(always)]
+    pub fn found<T: InsnTable>(&self, mem: &Memory, at: u64) -> Option<&Decoded>
+        requires { Serves (decoded_of T.rows) mem.now self.now }
+        ensures { IfSome result (λ spelled. spelled.now ≡ spelled_at (decoded_of T.rows) (code_in mem.now) at) }
+    {
+        let _ = mem;
+        let index = place(at, self.entries.len());
+        if index < self.entries.len() && self.entries[index].at == at {
+            Some(&self.entries[index].decoded)
+        } else {
+            None
         }
     }
 
@@ -73,6 +88,8 @@ impl DecodeCache {
     }
 
     // Puts an entry in its place, in a cache that first grows where it has missed as often as it has entries.
+    #[cold]
+    #[inline(never)]
     fn keep<T: InsnTable>(&mut self, alloc: Global, mem: &Memory, entry: Entry)
         requires serves { Serves (decoded_of T.rows) mem.now self.old }
         requires used { self.old.is_used ≡ true }
@@ -98,6 +115,7 @@ impl DecodeCache {
 }
 
 // The place of an address among so many entries, a power of two.
+#[inline(always)]
 fn place(at: u64, entries: usize) -> usize {
     at as usize & entries.wrapping_sub(1)
 }
@@ -114,6 +132,8 @@ fn grown(entries: usize) -> usize
 }
 
 /// What the executable bytes at an address spell, with no cache.
+#[cold]
+#[inline(never)]
 pub fn decode_at<T: InsnTable>(mem: &Memory, at: u64) -> Decoded
     ensures { result ≡ spelled_at (decoded_of T.rows) (code_in mem.now) at }
 {

@@ -111,6 +111,29 @@ impl Machine {
         if self.end.is_some() {
             return Ok(());
         }
+        if let Some(spelled) = cache.found::<T>(&self.mem, self.cpu.rip) {
+            return self.act(alloc, spelled);
+        }
+        self.step_anew::<T>(alloc, cache)
+    }
+
+    // The same step, where the cache may not have what the code spells.
+    #[cold]
+    #[inline(never)]
+    #[tactic(auto, unfolding(crate::specs::State::step))]
+    fn step_anew<T: InsnTable>(
+        &mut self,
+        alloc: Global,
+        cache: &mut DecodeCache,
+    ) -> Result<(), OutOfMemory>
+        requires { Serves (decoded T.rows) self.old.mem cache.old }
+        ensures ok { OnOk result (self.new ≡ step_of (decoded T.rows) self.old) }
+        ensures err { OnErr result (self.new ≡ self.old) }
+        ensures serves { Serves (decoded T.rows) self.new.mem cache.new }
+    {
+        if self.end.is_some() {
+            return Ok(());
+        }
         let spelled = cache.decode::<T>(alloc, &self.mem, self.cpu.rip);
         self.act(alloc, &spelled)
     }
@@ -143,6 +166,7 @@ impl Machine {
     }
 
     // What the bytes at RIP spell.
+    #[inline(always)]
     fn act(&mut self, alloc: Global, spelled: &Decoded) -> Result<(), OutOfMemory>
         requires { HasNames spelled.now }
         ensures ok { OnOk result (self.new ≡ act_of spelled.now self.old) }
@@ -166,6 +190,7 @@ impl Machine {
 
     // An instruction before `next`.
     #[tactic(auto, unfolding(rz_exec::specs::Form::carry))]
+    #[inline(always)]
     fn perform(&mut self, alloc: Global, insn: &Insn, next: u64) -> Result<(), OutOfMemory>
         requires { IsTrue (is_named insn.now) }
         ensures ok { OnOk result (self.new ≡ perform_of insn.now next self.old) }
@@ -200,6 +225,7 @@ impl Machine {
     }
 
     // A plain instruction before `next`.
+    #[inline(always)]
     fn pass(&mut self, insn: &Insn, next: u64)
         requires named { IsTrue (is_named insn.now) }
         requires way { way_of insn.now ≡ ways.Onward }
@@ -212,6 +238,8 @@ impl Machine {
     }
 
     // A system call before `next`.
+    #[cold]
+    #[inline(never)]
     fn call(&mut self, alloc: Global, next: u64) -> Result<(), OutOfMemory>
         ensures ok { OnOk result (self.new ≡ perform_action Asks next self.old) }
         ensures err { OnErr result (self.new ≡ self.old) }

@@ -14,6 +14,7 @@ use rz_elf::elf::{Elf, Load};
 use rz_exec::Cpu;
 use rz_flags::Flags;
 use rz_image::memory::Memory;
+use rz_image::padded::Padded;
 use rz_image::perm::Perm;
 use rz_image::region::Region;
 use rz_num::{Bytes, OutOfMemory, Words};
@@ -129,7 +130,7 @@ fn stack_region(bytes: Bytes) -> Region
 {
     Region {
         base: STACK_AT,
-        bytes,
+        bytes: Padded::from_bytes(bytes),
         opened: STACK_SIZE,
         perm: Perm::of_flags(READ_WRITE),
     }
@@ -210,14 +211,12 @@ fn load_region(alloc: Global, file: &[u8], load: &Load) -> Result<Region, OutOfM
     })
 }
 
-// These bytes, and zeros up to a size.
-fn filled(alloc: Global, bytes: &[u8], size: u64) -> Result<Bytes, OutOfMemory>
+// These bytes, and zeros up to a size, which aren't held before they are written.
+fn filled(alloc: Global, bytes: &[u8], size: u64) -> Result<Padded, OutOfMemory>
     requires { length bytes.now ≤ size }
     ensures { IfOk result (λ filled. filled ≡ bytes.now ++ zeros (size - length bytes.now)) }
 {
-    let mut items = Vec::from_slice(alloc, bytes)?;
-    items.resize(size as usize, 0)?;
-    Ok(Bytes::from_vec(items))
+    Padded::new(alloc, bytes, size)
 }
 
 // The heap from an address on, with none of it open.

@@ -21,6 +21,7 @@ const RSP: u8 = 4;
 
 // CALL of an address, before `next`.
 #[tactic(auto, unfolding(rz_exec::specs::Form::carry))]
+#[inline(always)]
 fn call(target: u64, next: u64, cpu: &mut Cpu, mem: &mut Memory) -> Result<(), Fault>
     ensures done { completion cpu.new mem.new (fault_in result)
         ≡ carried (transfers.Call target) next cpu.old mem.old }
@@ -41,8 +42,8 @@ fn call_operand(src: Place, next: u64, cpu: &mut Cpu, mem: &mut Memory) -> Resul
         ≡ carried (transfers.CallInd src) next cpu.old mem.old }
     ensures rip { cpu.new.rip ≡ rip_after (fault_in result) (transfers.CallInd src) next cpu.old mem.old }
 {
-    let word = read(mem, Width::W64, address_of(&cpu.regs, src))?;
-    let target = value_of(Width::W64, &cpu.regs, src, word);
+    let word = read(mem, Width::W64, address_of(&cpu.regs, &src))?;
+    let target = value_of(Width::W64, &cpu.regs, &src, word);
     let top = cpu.regs[4].wrapping_sub(8);
     write(mem, Width::W64, Some(top), next)?;
     put_reg(Width::W64, &mut cpu.regs, RSP, top);
@@ -59,13 +60,14 @@ fn jump_operand(src: Place, next: u64, cpu: &mut Cpu, mem: &Memory) -> Result<()
     ensures rip { cpu.new.rip ≡ rip_after (fault_in result) (transfers.JmpInd src) next cpu.old mem.now }
 {
     let _ = next;
-    let word = read(mem, Width::W64, address_of(&cpu.regs, src))?;
-    cpu.rip = value_of(Width::W64, &cpu.regs, src, word);
+    let word = read(mem, Width::W64, address_of(&cpu.regs, &src))?;
+    cpu.rip = value_of(Width::W64, &cpu.regs, &src, word);
     Ok(())
 }
 
 // RET, which takes so many bytes more from the stack.
 #[tactic(auto, unfolding(rz_exec::specs::Form::carry))]
+#[inline(always)]
 fn return_from(pop: u16, next: u64, cpu: &mut Cpu, mem: &Memory) -> Result<(), Fault>
     ensures done { completion cpu.new mem.now (fault_in result)
         ≡ carried (transfers.Ret pop) next cpu.old mem.now }
@@ -82,6 +84,7 @@ fn return_from(pop: u16, next: u64, cpu: &mut Cpu, mem: &Memory) -> Result<(), F
 
 /// Carries out a transfer before the address `next`: registers and memory are those that its effect leaves, and RIP
 /// is where it leads; a fault changes nothing. It takes no memory.
+#[inline(always)]
 pub(crate) fn transfer(how: Transfer, next: u64, cpu: &mut Cpu, mem: &mut Memory) -> Option<Fault>
     requires { IsTrue (is_named_transfer how) }
     ensures done { completion cpu.new mem.new result

@@ -47,6 +47,7 @@ pub enum Way {
 }
 
 /// How an instruction goes on.
+#[inline(always)]
 pub fn find_way(insn: &Insn) -> Way
     ensures { result ≡ way_of insn.now }
 {

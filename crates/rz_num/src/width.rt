@@ -16,18 +16,15 @@ impl Width {
     ghost use Rattle.rz_num.specs.Width.{bits, size, half};
 
     /// The number of bits.
+    #[inline(always)]
     pub fn bits(self) -> u32
         ensures { result ≡ bits self }
     {
-        match self {
-            Width::W8 => 8,
-            Width::W16 => 16,
-            Width::W32 => 32,
-            Width::W64 => 64,
-        }
+        8 << (self as u32)
     }
 
     /// The greatest number of the width: all its bits are ones.
+    #[inline(always)]
     pub fn greatest(self) -> u64
         ensures { result + 1 ≡ size self }
     {
@@ -35,6 +32,7 @@ impl Width {
     }
 
     /// The worth of the sign bit, which is the top bit.
+    #[inline(always)]
     pub fn sign_bit(self) -> u64
         ensures { result ≡ half self }
     {
@@ -43,18 +41,15 @@ impl Width {
 }
 
 /// The low bits of a number, as many as the width has; the bits above are 0.
+#[inline(always)]
 pub fn mask(width: Width, x: u64) -> u64
     ensures { result ≡ low_bits width x }
 {
-    match width {
-        Width::W8 => x % 0x100,
-        Width::W16 => x % 0x1_0000,
-        Width::W32 => x % 0x1_0000_0000,
-        Width::W64 => x,
-    }
+    x & width.greatest()
 }
 
 /// The low bits of a number, read in two's complement, as a word of 64 bits.
+#[inline(always)]
 pub fn sign_extend(width: Width, x: u64) -> u64
     ensures { result ≡ sign_extended width x }
 {
@@ -68,6 +63,7 @@ pub fn sign_extend(width: Width, x: u64) -> u64
 }
 
 // The number with all bits above `half`, its sign bit, equal to that bit.
+#[inline(always)]
 fn extend(low: u64, half: u64) -> u64
     requires positive { 0 < half }
     requires narrow { half < 2 ^ 63 }

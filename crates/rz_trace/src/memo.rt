@@ -42,6 +42,7 @@ impl Memo {
     }
 
     /// Whether the memo has an edge. Then the record has it, and the node that it leads to.
+    #[inline(always)]
     pub fn has(&self, from: u64, to: u64) -> bool
         ensures { (kept : Kept) → Knows kept self.now → IsTrue result
             → IsKept kept (record { from = from; to = to }) }
@@ -55,6 +56,8 @@ impl Memo {
     }
 
     /// Has an edge of the record from now on, where there is memory for it.
+    #[cold]
+    #[inline(never)]
     pub fn note(&mut self, alloc: Global, from: u64, to: u64)
         ensures { (kept : Kept) → Knows kept self.old → IsKept kept (record { from = from; to = to })
             → Knows kept self.new }
@@ -79,6 +82,7 @@ impl Memo {
 }
 
 // The place of an edge among so many, a power of two.
+#[inline(always)]
 fn place(from: u64, to: u64, edges: usize) -> usize {
     to.wrapping_mul(8).wrapping_add(from) as usize & edges.wrapping_sub(1)
 }

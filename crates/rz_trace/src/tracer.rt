@@ -74,6 +74,7 @@ pub fn trace<T: InsnTable>(
 }
 
 // The address where a run found no instruction, if it ended so.
+#[inline(always)]
 fn address_left(end: Option<End>) -> Option<u64>
     ensures { result ≡ left_at end }
 {
@@ -84,6 +85,8 @@ fn address_left(end: Option<End>) -> Option<u64>
 }
 
 // Adds an instruction that was begun, and the edge from the one begun before it.
+#[cold]
+#[inline(never)]
 fn add(rec: &mut Record, last: Option<u64>, at: u64) -> Result<(), OutOfMemory>
     ensures ok { OnOk result (kept_in rec.new ≡ with_begun (kept_in rec.old) last at) }
     ensures edges { OnErr result (rec.new.edges ≡ rec.old.edges) }
@@ -97,6 +100,7 @@ fn add(rec: &mut Record, last: Option<u64>, at: u64) -> Result<(), OutOfMemory>
 }
 
 // The same, where the memo knows edges that are there already.
+#[inline(always)]
 fn add_with(
     alloc: Global,
     memo: &mut Memo,

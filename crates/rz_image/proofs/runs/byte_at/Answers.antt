@@ -8,5 +8,5 @@ returns c =
     let m = c.args.regions.now in
     let r = c.index-regions-index.result in
     let has = c.in-Some.ensures.some in
-    ap (λ l. get_or l (c.args.at - r.base) 0) c.as_slice.ensures.value
+    c.byte.ensures
     ∙ sym (ap (λ (x : Cell). x.byte) (cell_found m 0 c.in-Some.index c.args.at r c.requires has.there (has.holds r)) ∙ ap (λ x. get_or x.bytes (c.args.at - x.base) 0) (sym c.index-regions-index.is))

@@ -1,8 +1,9 @@
-use Rattle.std.proofs.Common.{◌-◌, ◌≤◌, length, ap, sym, ◌∙◌, subst}
+use Rattle.std.proofs.Common.{◌-◌, ◌≤◌, length, ap, sym, subst}
 use Rattle.rz_image.specs.declared.region.Region.{Region}
 use Rattle.rz_image.specs.Run.{run_in, IsRun}
 use Rattle.rz_image.specs.Laws.Find.{fits_at}
 use Rattle.rz_image.specs.Laws.Run.{region_run}
+use Rattle.rz_image.proofs.RunLaws.{front_run}
 use Rattle.rz_image.proofs.runs.run_at.Goals as goal
 
 pub run_in-requires-clause-opened : goal.run_in-requires-clause-opened
@@ -14,4 +15,6 @@ pub returns : goal.returns
 returns c =
     let m = c.args.regions.now in
     let r = c.index-regions-index.result in
-    subst (IsRun c.args.access m c.args.at) (ap (λ (x : Region). run_in c.args.access x (c.args.at - x.base)) (sym c.index-regions-index.is) ∙ sym c.run_in.ensures) (region_run c.args.access m c.in-Some.index c.args.at r c.requires c.in-Some.ensures.some)
+    let is = ap (λ (x : Region). run_in c.args.access x (c.args.at - x.base)) (sym c.index-regions-index.is) in
+    let run = subst (IsRun c.args.access m c.args.at) is (region_run c.args.access m c.in-Some.index c.args.at r c.requires c.in-Some.ensures.some) in
+    front_run c.args.access m c.args.at c.run_in.result.now _ run c.run_in.ensures

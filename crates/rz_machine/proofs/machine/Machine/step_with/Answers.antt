@@ -10,14 +10,14 @@ use Rattle.rz_machine.proofs.machine.Machine.step_with.Goals as goal
 
 pub act-requires : goal.act-requires
 act-requires g c =
-    names_from g.T.InsnTable.rows (code_in c.self.inside.mem c.self.inside.cpu.rip) c.self.inside.cpu.rip c.decode-spelled.result c.decode-spelled.ensures.spelled
+    let s = c.self.inside in
+    names_from g.T.InsnTable.rows (code_in s.mem s.cpu.rip) s.cpu.rip c.in-Some.spelled.now c.in-Some.ensures
 
-pub returns-clause-serves : goal.returns-clause-serves
-returns-clause-serves g c =
+pub returns-in-Some-clause-serves : goal.returns-in-Some-clause-serves
+returns-in-Some-clause-serves g c =
     let dec = decoded g.T.InsnTable.rows in
     let s = c.args.self.now in
     let heap = subst (λ (t : MachineState). HasHeap t.mem t.world) c.self.view_is c.self.invariant in
     let runs : is_some s.end ≡ false = ap (λ (t : MachineState). is_some t.end) (sym c.self.view_is) ∙ sym c.is_some.ensures ∙ c.if-is_some.false in
-    let spelled = c.decode-spelled.ensures.spelled ∙ ap (λ (t : MachineState). decoded_at dec t) c.self.view_is in
-    let serves = subst (λ (t : MachineState). Serves dec t.mem c.decode-spelled.new.self) c.self.view_is c.decode-spelled.ensures.serves in
-    Serves-after dec c.act.result s c.act.new.self c.decode-spelled.new.self c.decode-spelled.result heap runs spelled c.act.ensures.ok c.act.ensures.err serves
+    let spelled = c.in-Some.ensures ∙ ap (λ (t : MachineState). decoded_at dec t) c.self.view_is in
+    Serves-after dec c.act.result s c.act.new.self c.args.cache.now c.in-Some.spelled.now heap runs spelled c.act.ensures.ok c.act.ensures.err c.requires
