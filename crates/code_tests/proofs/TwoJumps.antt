@@ -10,7 +10,7 @@ use Rattle.rz_isa.specs.Emitted.{Emits}
 use Rattle.rz_isa.specs.Items.{slots}
 use Rattle.rz_isa.specs.Plan.{offset, code_end, place, IsPlan, IsPlacedAt}
 use Rattle.rz_isa.specs.Laws.NearItems.{near_low}
-use Rattle.rz_layout.specs.Layout.{all_near, forms_of, ArePlaces}
+use Rattle.rz_layout.specs.Layout.{all_near, ArePlaces}
 use Rattle.rz_emit.specs.Emitted.{IsOrdered, IsLayoutOf}
 use Rattle.code_tests.specs.Calls.TwoJumps.{two_jumps, two_short}
 
@@ -53,27 +53,27 @@ two_end rows = omega arith
 
 -- ---- the jumps to each other short
 
-placed : (rows : List Row) → Emits rows → (k : ℕ) (s : Slot) → slice_get (slots two_jumps) k ≡ Some s → IsPlacedAt rows two_jumps 65536 (forms_of two_short) k s
+placed : (rows : List Row) → Emits rows → (k : ℕ) (s : Slot) → slice_get (slots two_jumps) k ≡ Some s → IsPlacedAt rows two_jumps 65536 two_short.forms k s
 unfolding first second third offset
 placed rows emits zero s is =
-    subst (λ s. IsPlacedAt rows two_jumps 65536 (forms_of two_short) 0 s) (some_is_some first s is)
+    subst (λ s. IsPlacedAt rows two_jumps 65536 two_short.forms 0 s) (some_is_some first s is)
     (record { reach = (refl, record { forward = omega arith; backward = omega arith }); spelled = emits.jmp_short 65538 65536 (omega arith) refl })
 placed rows emits (suc zero) s is =
-    subst (λ s. IsPlacedAt rows two_jumps 65536 (forms_of two_short) 1 s) (some_is_some second s is)
+    subst (λ s. IsPlacedAt rows two_jumps 65536 two_short.forms 1 s) (some_is_some second s is)
     (record { reach = (refl, record { forward = omega arith; backward = omega arith }); spelled = emits.jcc_short cond.E 65536 65538 (omega arith) refl })
 placed rows emits (suc (suc zero)) s is =
-    subst (λ s. IsPlacedAt rows two_jumps 65536 (forms_of two_short) 2 s) (some_is_some third s is)
+    subst (λ s. IsPlacedAt rows two_jumps 65536 two_short.forms 2 s) (some_is_some third s is)
     (record { reach = tt; spelled = emits.jmp 0x10028 65540 (omega arith) refl })
 placed rows emits (suc (suc (suc k))) s is = absurd (none_is_some s is)
 
-place_at : (rows : List Row) (k : ℕ) → k < 3 → slice_index two_short.places k ≡ place rows two_jumps 65536 (forms_of two_short) k
+place_at : (rows : List Row) (k : ℕ) → k < 3 → slice_index two_short.places k ≡ place rows two_jumps 65536 two_short.forms k
 unfolding offset
 place_at rows zero h = refl
 place_at rows (suc zero) h = refl
 place_at rows (suc (suc zero)) h = refl
 place_at rows (suc (suc (suc k))) h = absurd (omega arith)
 
-places : (rows : List Row) → ArePlaces rows two_jumps 65536 (forms_of two_short) two_short.places
+places : (rows : List Row) → ArePlaces rows two_jumps 65536 two_short.forms two_short.places
 places rows = record { each = refl; at = place_at rows }
 
 pub two_laid : (rows : List Row) → Emits rows → IsLayoutOf rows two_jumps two_short

@@ -6,9 +6,9 @@ ghost use Rattle.code_tests.specs.Calls.TwoJumps.{two_jumps as two_jumps_of, two
 use rz_emit::emit;
 use rz_flags::Cond;
 use rz_isa::laws::emits;
-use rz_isa::{Fragment, FragmentList, Fragments, InsnTable, Item, Items, Label};
+use rz_isa::{Form, Fragment, FragmentList, Fragments, InsnTable, Item, Items, Label};
 use rz_layout::layout::layout;
-use rz_layout::plan::Layout;
+use rz_layout::plan::{Forms, Layout};
 use rz_num::{Bytes, OutOfMemory, Pairs, Words};
 use std::alloc::Global;
 
@@ -58,7 +58,7 @@ fn two_short(alloc: Global) -> Result<Layout, OutOfMemory>
         base: 0x10000,
         stubs: 0x10010,
         places: Words::from_slice(alloc, &[0x10000, 0x10002, 0x10004])?,
-        forms: Bytes::from_slice(alloc, &[1, 1, 0])?,
+        forms: Forms::from_vec(Vec::from_slice(alloc, &[Form::Short, Form::Short, Form::Near])?),
     })
 }
 

@@ -45,7 +45,7 @@ demo_unmade d s st h = unmade_of (demo_command d) s [] tt (DebloatEnds level.Exa
 abbrev pub said : ℕ → List ℕ → List ℕ → List ℕ → List ℕ
 said n x report w =
     counted_text n (steps_made decode_profile GEN_STEPS_LIMIT (traced x empty_input))
-    ++ (last_line (elf_of x) (ran GEN_STEPS_LIMIT x empty_input).end ++ (report ++ compared_text (replayed GEN_STEPS_LIMIT x w empty_input)))
+    ++ (last_line (elf_of x) (ran GEN_STEPS_LIMIT x empty_input) ++ (report ++ compared_text (replayed GEN_STEPS_LIMIT x w empty_input)))
 
 -- of the sources that were made for it
 pub demo_text : (n : ℕ) (from : Sources) (report w text bytes : List ℕ) → from ≡ demonstrated n → IsReport level.Exact GEN_STEPS_LIMIT from report → bytes ≡ w
@@ -66,23 +66,23 @@ all_valid (suc k) d lt = absurd (omega arith)
 
 -- the lines on the run of what was read of a program
 module _ (elf : ElfFile) (is : IsRead elf) (input : Input) (opened came : Machine) (open_is : opened ≡ start (loaded elf) input) (after_is : came ≡ after decode_profile GEN_STEPS_LIMIT opened) (empty : input ≡ empty_input) where
-  pub lines_are : (n steps : ℕ) (counted last text : List ℕ) → steps ≡ steps_made decode_profile GEN_STEPS_LIMIT opened → counted ≡ counted_text n steps → last ≡ last_line elf came.end → text ≡ counted ++ last
-      → text ≡ counted_text n (steps_made decode_profile GEN_STEPS_LIMIT (traced elf.bytes empty_input)) ++ last_line (elf_of elf.bytes) (ran GEN_STEPS_LIMIT elf.bytes empty_input).end
+  pub lines_are : (n steps : ℕ) (counted last text : List ℕ) → steps ≡ steps_made decode_profile GEN_STEPS_LIMIT opened → counted ≡ counted_text n steps → last ≡ last_line elf came → text ≡ counted ++ last
+      → text ≡ counted_text n (steps_made decode_profile GEN_STEPS_LIMIT (traced elf.bytes empty_input)) ++ last_line (elf_of elf.bytes) (ran GEN_STEPS_LIMIT elf.bytes empty_input)
   lines_are n steps counted last text steps_are counted_is last_is e =
       let opens = open_is ∙ traced_is elf is input ∙ ap (traced elf.bytes) empty in
       let comes = came_is elf is GEN_STEPS_LIMIT input opened came open_is after_is ∙ ap (λ (i : Input). ran GEN_STEPS_LIMIT elf.bytes i) empty in
       e
       ∙ ap₂ (λ (a b : List ℕ). a ++ b) (counted_is ∙ ap (counted_text n) (steps_are ∙ ap (λ (s : Machine). steps_made decode_profile GEN_STEPS_LIMIT s) opens))
-      (last_is ∙ ap₂ (λ (f : ElfFile) (s : Machine). last_line f s.end) is.read comes)
+      (last_is ∙ ap₂ (λ (f : ElfFile) (s : Machine). last_line f s) is.read comes)
 
 -- all that is said, from its parts
 pub said_is : (n : ℕ) (old new : ElfFile) → IsRead old → IsRead new → (input : Input) (v : Verdict) (lines report compared text w : List ℕ) → input ≡ empty_input
     → v ≡ verdict_of decode_profile old new GEN_STEPS_LIMIT input → new.bytes ≡ w
-    → lines ≡ counted_text n (steps_made decode_profile GEN_STEPS_LIMIT (traced old.bytes empty_input)) ++ last_line (elf_of old.bytes) (ran GEN_STEPS_LIMIT old.bytes empty_input).end
+    → lines ≡ counted_text n (steps_made decode_profile GEN_STEPS_LIMIT (traced old.bytes empty_input)) ++ last_line (elf_of old.bytes) (ran GEN_STEPS_LIMIT old.bytes empty_input)
     → compared ≡ compared_text v → text ≡ (lines ++ report) ++ compared → text ≡ said n old.bytes report w
 said_is n old new is new_is input v lines report compared text w empty verdict same lines_are compared_is e =
     let head = counted_text n (steps_made decode_profile GEN_STEPS_LIMIT (traced old.bytes empty_input)) in
-    let last = last_line (elf_of old.bytes) (ran GEN_STEPS_LIMIT old.bytes empty_input).end in
+    let last = last_line (elf_of old.bytes) (ran GEN_STEPS_LIMIT old.bytes empty_input) in
     let by = verdict_is old new is new_is GEN_STEPS_LIMIT input v verdict ∙ ap₂ (λ (b : List ℕ) (i : Input). replayed GEN_STEPS_LIMIT old.bytes b i) same empty in
     e
     ∙ ap₂ (λ (a b : List ℕ). (a ++ report) ++ b) lines_are (compared_is ∙ ap compared_text by)

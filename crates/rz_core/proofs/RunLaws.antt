@@ -1,6 +1,5 @@
 -- The run of a file on an input, from its opening state to its text.
 use Rattle.std.proofs.Common.{◌≡◌, ℕ, List, Option, Some, None, refl, sym, ap, ap₂, ◌∙◌}
-use Rattle.std.specs.Prelude.{option_and_then}
 use Rattle.rz_sys.specs.declared.input.Input.{Input}
 use Rattle.rz_elf.specs.Loaded.{ElfFile, IsRead, loaded}
 use Rattle.rz_machine.specs.declared.machine.Machine.{Machine}
@@ -18,13 +17,13 @@ module _ (elf : ElfFile) (is : IsRead elf) (limit : ℕ) (input : Input) (opened
   pub came_is : came ≡ ran limit elf.bytes input
   came_is = after_is ∙ ap (λ (s : Machine). after decode_profile limit s) (open_is ∙ traced_is elf is input)
 
-  stop_is : (stop : Option ℕ) → stop ≡ option_and_then (stub_word_of elf) came.end → stop_of limit elf.bytes input ≡ stop
-  stop_is stop e = ap₂ (λ (f : ElfFile) (s : Machine). option_and_then (stub_word_of f) s.end) (sym is.read) (sym came_is) ∙ sym e
+  stop_is : (stop : Option ℕ) → stop ≡ stub_word_of elf came → stop_of limit elf.bytes input ≡ stop
+  stop_is stop e = ap₂ (λ (f : ElfFile) (s : Machine). stub_word_of f s) (sym is.read) (sym came_is) ∙ sym e
 
-  text_is : (text : List ℕ) → text ≡ run_text_of elf came.world.events came.end → text ≡ ran_text limit elf.bytes input
-  text_is text e = e ∙ ap₂ (λ (f : ElfFile) (s : Machine). run_text_of f s.world.events s.end) is.read came_is
+  text_is : (text : List ℕ) → text ≡ run_text_of elf came → text ≡ ran_text limit elf.bytes input
+  text_is text e = e ∙ ap₂ (λ (f : ElfFile) (s : Machine). run_text_of f s) is.read came_is
 
-  pub is_ran : (stop : Option ℕ) (text : List ℕ) → stop ≡ option_and_then (stub_word_of elf) came.end → text ≡ run_text_of elf came.world.events came.end
+  pub is_ran : (stop : Option ℕ) (text : List ℕ) → stop ≡ stub_word_of elf came → text ≡ run_text_of elf came
       → IsRan limit elf.bytes input (record { status = status_at stop; text = text })
   is_ran None text stop e = record { ends = stop_is None stop; kind = refl; text_is = text_is text e }
   is_ran (Some source) text stop e = record { ends = stop_is (Some source) stop; kind = refl; text_is = text_is text e }

@@ -25,7 +25,7 @@ demo_steps n = steps_made decode_profile GEN_STEPS_LIMIT (traced (generated n) e
 
 -- the last line of its run
 abbrev pub demo_end : ℕ → List ℕ
-demo_end n = last_line (elf_of (generated n)) (ran GEN_STEPS_LIMIT (generated n) empty_input).end
+demo_end n = last_line (elf_of (generated n)) (ran GEN_STEPS_LIMIT (generated n) empty_input)
 
 -- what is said where w is written: how many functions and steps, the end of the run, the report, and the verdict on w
 pub record IsDemoText (n : ℕ) (w text : List ℕ) : Type 0 where

@@ -1,5 +1,5 @@
 -- The command `run`: how a file runs on an input.
-use Rattle.std.specs.Prelude.{◌≡◌, ℕ, List, [], ◌∷◌, Option, Some, None, option_and_then}
+use Rattle.std.specs.Prelude.{◌≡◌, ℕ, List, [], ◌∷◌, Option, Some, None}
 use Rattle.rz_sys.specs.declared.input.Input.{Input}
 use Rattle.rz_elf.specs.Loaded.{elf_of}
 use Rattle.rz_machine.specs.declared.machine.Machine.{Machine}
@@ -21,7 +21,7 @@ ran limit x input = after decode_profile limit (traced x input)
 
 -- the word of the stub where the run ended, if it ended at one
 abbrev pub stop_of : ℕ → List ℕ → Input → Option ℕ
-stop_of limit x input = option_and_then (stub_word_of (elf_of x)) (ran limit x input).end
+stop_of limit x input = stub_word_of (elf_of x) (ran limit x input)
 
 -- how `run` ends: at a stub, or not
 abbrev pub RunEnds : ℕ → List ℕ → Input → Status → Type 0
@@ -31,7 +31,7 @@ RunEnds limit x input _ = ⊥
 
 -- its text
 abbrev pub ran_text : ℕ → List ℕ → Input → List ℕ
-ran_text limit x input = let s = ran limit x input in run_text_of (elf_of x) s.world.events s.end
+ran_text limit x input = run_text_of (elf_of x) (ran limit x input)
 
 -- the contents are the executable and the text of the input
 abbrev pub RunEndsBy : ℕ → List (List ℕ) → Status → Type 0

@@ -111,7 +111,7 @@ fn with_text(alloc: Global, count: u32, old: &Elf, made: Made) -> Result<Made, O
     ensures bytes { IfOk result (λ m. m.bytes ≡ made.bytes) }
     ensures text { IfOk result (λ m. m.report
         ≡ counted_text count (steps_made decode_profile LIMIT (traced old.now.bytes empty_input))
-        ++ (line_of_end (elf_of old.now.bytes) (ran LIMIT old.now.bytes empty_input).end
+        ++ (line_of_end (elf_of old.now.bytes) (ran LIMIT old.now.bytes empty_input)
         ++ (made.report ++ compared_text (replayed LIMIT old.now.bytes made.bytes empty_input)))) }
 {
     let Made { bytes, report } = made;
@@ -133,13 +133,13 @@ fn run_lines(alloc: Global, count: u32, elf: &Elf) -> Result<Bytes, OutOfMemory>
     requires { IsRead elf.now }
     ensures { IfOk result (λ text. text
         ≡ counted_text count (steps_made decode_profile LIMIT (traced elf.now.bytes empty_input))
-        ++ line_of_end (elf_of elf.now.bytes) (ran LIMIT elf.now.bytes empty_input).end) }
+        ++ line_of_end (elf_of elf.now.bytes) (ran LIMIT elf.now.bytes empty_input)) }
 {
     let input = Input::empty(alloc);
     let mut machine = start(alloc, elf, &input)?;
     let steps = run_counting::<Profile1>(alloc, &mut machine, GEN_STEPS_LIMIT)?;
     let counted = texts::counted(alloc, count, steps)?;
-    let last = last_line(alloc, elf, machine.end)?;
+    let last = last_line(alloc, elf, &machine)?;
     let mut text = Bytes::from_slice(alloc, counted.as_bytes())?;
     text.push_all(last.as_bytes())?;
     Ok(text)

@@ -1,10 +1,9 @@
 //! The command `run`: how a file runs on an input.
 
-ghost use Rattle.std.specs.Prelude.{◌≡◌, ◌≤◌, IfOk, option_and_then};
+ghost use Rattle.std.specs.Prelude.{◌≡◌, ◌≤◌, IfOk};
 ghost use Rattle.rz_outside.specs.StoreCalls.{store_calls};
 ghost use Rattle.rz_sys.specs.Input.{IsValid};
 ghost use Rattle.rz_elf.specs.Loaded.{IsRead};
-ghost use Rattle.rz_machine.specs.Stub.{stub_word_of};
 ghost use Rattle.rz_core.specs.Calls.Held.{running};
 ghost use Rattle.rz_core.specs.Calls.Carried.{IsCarriedOut};
 ghost use Rattle.rz_core.specs.Calls.Running.{IsRan, status_at as status_at_stub};
@@ -14,7 +13,6 @@ use crate::reading::{Program, read_program};
 use crate::status::Status;
 use crate::words::Run;
 use rz_elf::elf::Elf;
-use rz_machine::machine::End;
 use rz_machine::start::start;
 use rz_machine::stub::stub_word;
 use rz_num::OutOfMemory;
@@ -46,15 +44,8 @@ fn run_program(alloc: Global, elf: &Elf, input: &Input, limit: u64) -> Result<An
     let mut machine = start(alloc, elf, input)?;
     machine.run::<Profile1>(alloc, limit)?;
     let text = run_text(alloc, &machine, elf)?;
-    let status = status_at(stub_of(elf, machine.end));
+    let status = status_at(stub_word(elf, &machine));
     Ok(Answer { status, text })
-}
-
-// The word of the stub at which a run ended, if it ended at one.
-fn stub_of(elf: &Elf, end: Option<End>) -> Option<u64>
-    ensures { result ≡ option_and_then (stub_word_of elf.now) end }
-{
-    stub_word(elf, end?)
 }
 
 // The status of a run that ended at this stub, or at none.

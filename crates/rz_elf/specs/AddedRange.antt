@@ -1,13 +1,10 @@
 -- The range of addresses that is added to a file: four parts of whole pages below its lowest load, and the stubs in the last.
-use Rattle.std.specs.Prelude.{ℕ, ◌+◌, ◌-◌, ◌*◌, ◌%◌, List, [], ◌∷◌, ◌++◌, length, flat_map, min, replicate}
-use Rattle.byteorder.specs.Endian.{little_bytes}
+use Rattle.std.specs.Prelude.{ℕ, ◌+◌, ◌-◌, ◌*◌, ◌%◌, List, [], ◌∷◌, ◌++◌, length, min, replicate}
 use Rattle.rz_num.specs.Page.{page_up}
 use Rattle.rz_image.specs.Memory.{Regions}
+use Rattle.rz_elf.specs.Format.{int3, stub_size, all_stubs}
 
--- the sizes of a stub and of the parts, in bytes, by the numbers of kept nodes, of kept sites and of the kept edges that leave them
-abbrev pub stub_size : ℕ
-stub_size = 24
-
+-- the sizes of the parts, in bytes, by the numbers of kept nodes, of kept sites and of the kept edges that leave them
 abbrev pub scratch_size : ℕ
 scratch_size = 4096
 
@@ -45,19 +42,10 @@ parts_below tables_len code_len stubs_len stop =
     let tables = code - tables_len in
     record { scratch = tables - scratch_size; tables = tables; code = code; stubs = stubs; stop = stop }
 
--- UD2 and six zero bytes, the address, and eight bytes of INT3
-abbrev pub stub_bytes : ℕ → List ℕ
-stub_bytes a =
-    0x0f ∷ 0x0b ∷ 0 ∷ 0 ∷ 0 ∷ 0 ∷ 0 ∷ 0 ∷ (little_bytes 8 a ++ 0xcc ∷ 0xcc ∷ 0xcc ∷ 0xcc ∷ 0xcc ∷ 0xcc ∷ 0xcc ∷ 0xcc ∷ [])
-
--- the stubs of ascending addresses
-abbrev pub all_stubs : List ℕ → List ℕ
-all_stubs nodes = flat_map stub_bytes nodes
-
 -- bytes filled up with INT3
 abbrev pub filled : ℕ → List ℕ → List ℕ
-filled len bytes = bytes ++ replicate (len - length bytes) 0xcc
+filled len bytes = bytes ++ replicate (len - length bytes) int3
 
 -- the stubs part of the kept nodes
 abbrev pub stubs_part : Added → List ℕ → List ℕ
-stubs_part a nodes = filled (a.stop - a.stubs) (all_stubs nodes)
+stubs_part a nodes = filled (a.stop - a.stubs) (all_stubs a.stubs nodes)

@@ -8,6 +8,7 @@ use Rattle.rz_num.specs.Page.{page_up}
 use Rattle.rz_image.specs.declared.region.Region.{Region}
 pub use Rattle.rz_image.specs.Perm.{has_flag, perm_of}
 use Rattle.rz_image.specs.Memory.{Regions, zeros}
+use Rattle.rz_elf.specs.Format.{executable_type, x86_64, current_version, load_type, dynamic_type, interpreter_type, stack_type}
 use Rattle.rz_elf.specs.declared.fault.ElfFault.{ElfFault}
 use Rattle.rz_elf.specs.declared.fault.ElfFault.TheVariants as fault
 pub use Rattle.rz_elf.specs.declared.header.FileHeader.{FileHeader}
@@ -54,12 +55,12 @@ segments_of (suc n) t = segment_of t ∷ segments_of n (drop 56 t)
 abbrev pub segments : List ℕ → List Segment
 segments x = let h = file_header x in segments_of h.count (drop h.table_at x)
 
--- PT_LOAD with a size in memory, and PT_GNU_STACK
+-- what is loaded: a size in memory; and what says how the stack may be used
 abbrev pub is_load : Segment → Bool
-is_load s = s.kind == 1 && not (s.memsz == 0)
+is_load s = s.kind == load_type && not (s.memsz == 0)
 
 abbrev pub is_stack : Segment → Bool
-is_stack s = s.kind == 0x6474e551
+is_stack s = s.kind == stack_type
 
 abbrev pub loads : List ℕ → List Segment
 loads x = filter is_load (segments x)
@@ -82,7 +83,7 @@ against test p = is_load p.segment && go p.before
     go (Some b) = test b p.segment
 
 abbrev pub is_dynamic : Segment → Bool
-is_dynamic s = s.kind == 2 || s.kind == 3
+is_dynamic s = s.kind == dynamic_type || s.kind == interpreter_type
 
 abbrev pub is_stack_code : Segment → Bool
 is_stack_code s = is_stack s && has_flag s.flags 1
@@ -147,9 +148,9 @@ file_conditions x =
     ∷ (not (starts_with nat_eq x (0x7f ∷ 0x45 ∷ 0x4c ∷ 0x46 ∷ [])), fault.Magic)
     ∷ (not (field x 4 1 == 2), fault.Class)
     ∷ (not (field x 5 1 == 1), fault.Data)
-    ∷ (not (field x 6 1 == 1) || not (h.version == 1), fault.Version)
-    ∷ (not (h.file_type == 2), fault.FileType)
-    ∷ (not (h.machine == 62), fault.Machine)
+    ∷ (not (field x 6 1 == current_version) || not (h.version == current_version), fault.Version)
+    ∷ (not (h.file_type == executable_type), fault.FileType)
+    ∷ (not (h.machine == x86_64), fault.Machine)
     ∷ (not (h.header_size == 64), fault.HeaderSize)
     ∷ (not (h.entry_size == 56), fault.EntrySize)
     ∷ (h.count == 0 || nat_lt 64 h.count, fault.Count)

@@ -4,6 +4,7 @@ use Rattle.rz_num.specs.Page.{page_up}
 use Rattle.rz_elf.specs.declared.room.Extent.{Extent}
 use Rattle.rz_elf.specs.declared.room.Room.{Room}
 use Rattle.rz_elf.specs.declared.room.Room.TheVariants as room
+use Rattle.rz_elf.specs.Format.{added_loads}
 use Rattle.rz_elf.specs.Elf.{loads, image_of}
 use Rattle.rz_elf.specs.AddedRange.{scratch_size, lowest, page_floor}
 use Rattle.rz_elf.specs.WrittenFile.{Parts, kept_segments}
@@ -22,7 +23,7 @@ extent_of x =
 abbrev pub no_room : Extent → ℕ → Option Room
 no_room x size =
     if nat_lt x.floor (0x10000 + scratch_size + size) then Some room.Low
-    else (if nat_lt 64 (4 + x.headers) then Some room.Headers
+    else (if nat_lt 64 (added_loads + x.headers) then Some room.Headers
     else (if nat_lt 67108864 (4096 + page_up x.bytes + size) then Some room.Length
     else (if nat_lt 268435456 (x.memory + scratch_size + size) then Some room.Total else None)))
 

@@ -1,10 +1,13 @@
 -- Stamped files: accepted files with the stamp of a written file and its added loads.
-use Rattle.std.specs.Prelude.{Bool, ◌&&◌, nat_eq, nat_le, length, drop}
+use Rattle.std.specs.Prelude.{ℕ, Bool, ◌&&◌, if◌then◌else◌, nat_eq, nat_le, List, length, drop, Option, Some, None}
 use Rattle.std.specs.List.{starts_with}
+use Rattle.rz_elf.specs.Format.{stamp_at, stamp_with, added_loads}
 use Rattle.rz_elf.specs.Loaded.{ElfFile}
-use Rattle.rz_elf.specs.WrittenFile.{stamp}
 
--- the stamp from byte 9 on, where the padding of the identification begins
--- (System V gABI, chapter 4, "ELF Identification"), and at least four loads
-abbrev pub is_stamped : ElfFile → Bool
-is_stamped elf = starts_with nat_eq (drop 9 elf.bytes) stamp && nat_le 4 (length elf.loads)
+-- a stamp stands where the padding of the identification begins, and there are as many loads as are added, or more
+abbrev pub has_stamp : List ℕ → ElfFile → Bool
+has_stamp stamp elf = starts_with nat_eq (drop stamp_at elf.bytes) stamp && nat_le added_loads (length elf.loads)
+
+-- the number of the stamp; none where a file isn't stamped
+abbrev pub stamp_of : ElfFile → Option ℕ
+stamp_of elf = if has_stamp (stamp_with 1) elf then Some 1 else None

@@ -6,6 +6,7 @@ use Rattle.rz_image.specs.declared.region.Region.{Region}
 use Rattle.rz_image.specs.Perm.{read_only, read_execute, read_write}
 use Rattle.rz_image.specs.Memory.{Regions, whole_region, zeros}
 use Rattle.rz_elf.specs.declared.segment.Segment.{Segment}
+use Rattle.rz_elf.specs.Format.{executable_type, x86_64, current_version, load_type, stamp}
 use Rattle.rz_elf.specs.Elf.{segments, is_load, is_stack, Image}
 use Rattle.rz_elf.specs.AddedRange.{scratch_size}
 
@@ -29,10 +30,6 @@ segment_bytes s =
     ++ (little_bytes 8 s.memsz
     ++ little_bytes 8 s.align))))))
 
--- the stamp of a written file, in the padding of its identification: RZSTUB1
-abbrev pub stamp : List ℕ
-stamp = 0x52 ∷ 0x5a ∷ 0x53 ∷ 0x54 ∷ 0x55 ∷ 0x42 ∷ 0x31 ∷ []
-
 -- ELF, 64 bits, low byte first, version 1, System V; then the stamp (System V gABI, chapter 4, "ELF Identification")
 abbrev pub identity : List ℕ
 identity = 0x7f ∷ 0x45 ∷ 0x4c ∷ 0x46 ∷ 2 ∷ 1 ∷ 1 ∷ 0 ∷ 0 ∷ stamp
@@ -41,9 +38,9 @@ identity = 0x7f ∷ 0x45 ∷ 0x4c ∷ 0x46 ∷ 2 ∷ 1 ∷ 1 ∷ 0 ∷ 0 ∷ sta
 abbrev pub header_bytes : ℕ → ℕ → List ℕ
 header_bytes entry count =
     identity
-    ++ (little_bytes 2 2
-    ++ (little_bytes 2 62
-    ++ (little_bytes 4 1
+    ++ (little_bytes 2 executable_type
+    ++ (little_bytes 2 x86_64
+    ++ (little_bytes 4 current_version
     ++ (little_bytes 8 entry
     ++ (little_bytes 8 64
     ++ (little_bytes 8 0
@@ -58,7 +55,7 @@ header_bytes entry count =
 -- a load whose bytes stand whole at an offset of the file
 abbrev pub added_segment : ℕ → ℕ → ℕ → ℕ → ℕ → Segment
 added_segment flags offset at filesz memsz =
-    record { kind = 1; flags = flags; offset = offset; vaddr = at; paddr = at; filesz = filesz; memsz = memsz; align = 4096 }
+    record { kind = load_type; flags = flags; offset = offset; vaddr = at; paddr = at; filesz = filesz; memsz = memsz; align = 4096 }
 
 -- the four added loads: scratch, tables, code and stubs; `offset` is where the tables stand in the file
 abbrev pub added_segments : ℕ → Parts → List Segment

@@ -4,6 +4,7 @@ ghost use Rattle.std.specs.Prelude.{◌≡◌, ◌+◌, ◌*◌, ◌≤◌, ◌<
 ghost use Rattle.rz_elf.specs.Elf.{field, file_header, file_conditions, first_of as first_fault};
 
 use crate::fault::ElfFault;
+use crate::format::{CURRENT, EXECUTABLE, X86_64};
 use crate::header::{FileHeader, HEADER_SIZE, read_header};
 use crate::segment::SEGMENT_SIZE;
 
@@ -22,16 +23,10 @@ const ORDER: usize = 5;
 
 const VERSION: usize = 6;
 
-// A file of the machine: ELFCLASS64, ELFDATA2LSB, EV_CURRENT, ET_EXEC, EM_X86_64.
+// ELFCLASS64 and ELFDATA2LSB.
 const CLASS_64: u8 = 2;
 
 const LOW_BYTE_FIRST: u8 = 1;
-
-const CURRENT: u8 = 1;
-
-const EXECUTABLE: u16 = 2;
-
-const X86_64: u16 = 62;
 
 /// The first fault of a file as a whole.
 pub fn file_fault(file: &[u8]) -> Option<ElfFault>

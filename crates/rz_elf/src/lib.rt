@@ -6,6 +6,7 @@ pub mod elf;
 pub mod executable;
 pub mod fault;
 mod file_faults;
+pub mod format;
 pub mod header;
 mod header_faults;
 pub mod law;

@@ -3,6 +3,7 @@
 ghost use Rattle.std.specs.Prelude.{◌≡◌};
 ghost use Rattle.rz_num.specs.Page.{page_up};
 
+use crate::format::ADDED_LOADS;
 use thiserror::Error;
 
 // The lowest address of loads; the most program headers, bytes of a file, and bytes of all loads in memory.
@@ -16,9 +17,6 @@ const MOST_MEMORY: u128 = 268_435_456;
 
 // The bytes of a page, of the header page and of the scratch page.
 const PAGE: u128 = 4096;
-
-// The program headers of the added loads.
-const ADDED: u128 = 4;
 
 /// Why there is no room, in the order in which it is tried: no addresses below the lowest load, too many program
 /// headers, too many bytes in the file, or in all loads in memory.
@@ -55,7 +53,7 @@ impl Extent {
         if u128::from(self.floor) < LOWEST + PAGE + size {
             return Some(Room::Low);
         }
-        if ADDED + u128::from(self.headers) > MOST_HEADERS {
+        if ADDED_LOADS as u128 + u128::from(self.headers) > MOST_HEADERS {
             return Some(Room::Headers);
         }
         if PAGE + pages(self.bytes) + size > MOST_BYTES {

@@ -4,17 +4,9 @@ ghost use Rattle.std.specs.Prelude.{◌≡◌, ◌+◌, ◌++◌, ◌≤◌, len
 ghost use Rattle.rz_elf.specs.Elf.{segment_of, is_load, is_stack, is_dynamic, is_stack_code, has_other_flags, is_writable_code, is_larger_in_file, leaves_file, is_misaligned, is_far, isnt_above, last_page, shares_page, has_entry};
 ghost use Rattle.rz_elf.specs.WrittenFile.{segment_bytes};
 
+use crate::format::{DYNAMIC, INTERPRETER, LOAD, STACK};
 use rz_image::perm::Perm;
 use rz_num::{OutOfMemory, get_u32, get_u64, push_u32, push_u64};
-
-// The types that matter: PT_LOAD, PT_DYNAMIC, PT_INTERP and PT_GNU_STACK.
-const LOAD: u32 = 1;
-
-const DYNAMIC: u32 = 2;
-
-const INTERPRETER: u32 = 3;
-
-const STACK: u32 = 0x6474_e551;
 
 // The addresses of loads begin at the first, and end below the second.
 const LOWEST: u64 = 0x1_0000;

@@ -1,21 +1,26 @@
 //! Stamped files.
 
 ghost use Rattle.std.specs.Prelude.{◌≡◌};
-ghost use Rattle.rz_elf.specs.Stamped.{is_stamped};
+ghost use Rattle.rz_elf.specs.Stamped.{has_stamp as is_stamped, stamp_of};
 
 use crate::elf::Elf;
+use crate::format::{ADDED_LOADS, STAMP, STAMP_AT, STAMP_NUMBER};
 
-// The stamp of a written file, and where it stands: EI_PAD.
-const STAMP: [u8; 7] = *b"RZSTUB1";
-
-const STAMP_AT: usize = 9;
-
-// How many loads a written file has besides those of its original.
-const ADDED: usize = 4;
-
-/// Whether a file has the stamp of a written file, at bytes 9 to 15, and at least four loads. It takes no memory.
-pub fn stamped(elf: &Elf) -> bool
-    ensures { result ≡ is_stamped elf.now }
+/// The number of a file's stamp, at bytes 9 to 15: 1. None exactly where it has no stamp of a written file, or fewer
+/// than four loads. It takes no memory.
+pub fn stamped(elf: &Elf) -> Option<u8>
+    ensures { result ≡ stamp_of elf.now }
 {
-    elf.bytes.as_slice()[STAMP_AT..].starts_with(&STAMP) && elf.loads.as_slice().len() >= ADDED
+    if has_stamp(elf, &STAMP) {
+        Some(STAMP_NUMBER)
+    } else {
+        None
+    }
+}
+
+// Whether a file has a stamp, and at least as many loads as are added.
+fn has_stamp(elf: &Elf, stamp: &[u8; 7]) -> bool
+    ensures { result ≡ is_stamped stamp.now elf.now }
+{
+    elf.bytes.as_slice()[STAMP_AT..].starts_with(stamp) && elf.loads.as_slice().len() >= ADDED_LOADS
 }

@@ -4,6 +4,7 @@ ghost use Rattle.std.specs.Prelude.{◌≡◌, ◌≤◌, ◌++◌, length, OnOk
 ghost use Rattle.rz_image.specs.Memory.{zeros};
 ghost use Rattle.rz_elf.specs.WrittenFile.{header_bytes, header_page};
 
+use rz_elf::format::{CURRENT, EXECUTABLE, STAMP, X86_64};
 use rz_elf::header::HEADER_SIZE;
 use rz_elf::segment::{SEGMENT_SIZE, Segment};
 use rz_num::{OutOfMemory, push_u16, push_u32, push_u64};
@@ -11,15 +12,8 @@ use rz_num::{OutOfMemory, push_u16, push_u32, push_u64};
 /// The bytes of the header page.
 pub const PAGE: usize = 4096;
 
-// ELF, 64 bits, low byte first, version 1, System V; and the stamp of a written file.
-const IDENTITY: [u8; 16] = *b"\x7fELF\x02\x01\x01\0\0RZSTUB1";
-
-// ET_EXEC, EM_X86_64 and EV_CURRENT.
-const EXECUTABLE: u16 = 2;
-
-const X86_64: u16 = 62;
-
-const CURRENT: u32 = 1;
+// ELF, 64 bits, low byte first, version 1, System V. The stamp stands behind it.
+const IDENTITY: [u8; 9] = *b"\x7fELF\x02\x01\x01\0\0";
 
 // The bytes of a section header.
 const SECTION_SIZE: u16 = 64;
@@ -47,9 +41,10 @@ fn push_file_header(out: &mut Vec<u8>, entry: u64, count: u16) -> Result<(), Out
     ensures { OnOk result (out.new.items ≡ out.old.items ++ header_bytes entry count) }
 {
     out.extend_from_slice(&IDENTITY)?;
+    out.extend_from_slice(&STAMP)?;
     push_u16(out, EXECUTABLE)?;
     push_u16(out, X86_64)?;
-    push_u32(out, CURRENT)?;
+    push_u32(out, CURRENT as u32)?;
     push_u64(out, entry)?;
     push_u64(out, HEADER_SIZE as u64)?;
     push_u64(out, 0)?;

@@ -8,6 +8,7 @@ ghost use Rattle.rz_elf.specs.WrittenFile.{added_segment, added_segments, kept_s
 
 use crate::parts::Parts;
 use rz_elf::elf::Elf;
+use rz_elf::format::LOAD;
 use rz_elf::header::{FileHeader, read_header};
 use rz_elf::segment::{SEGMENT_SIZE, Segment};
 use rz_num::{OutOfMemory, page_up};
@@ -15,9 +16,6 @@ use std::alloc::Global;
 
 // The bytes of a page, of the header page and of the scratch page.
 const PAGE: u64 = 4096;
-
-// PT_LOAD.
-const LOAD: u32 = 1;
 
 // PF_X, PF_W and PF_R.
 const EXECUTE: u32 = 1;

@@ -1,10 +1,11 @@
 //! The written file.
 
-ghost use Rattle.std.specs.Prelude.{◌≡◌, IfOk, IsTrue, None};
+ghost use Rattle.std.specs.Prelude.{◌≡◌, IfOk, Some, None};
 ghost use Rattle.rz_elf.specs.Elf.{fault_of, image_of};
+ghost use Rattle.rz_elf.specs.Format.{stamp_number};
 ghost use Rattle.rz_elf.specs.Loaded.{elf_of};
 ghost use Rattle.rz_elf.specs.Room.{ArePages, IsInCode, extent_of, no_room, parts_end, parts_size};
-ghost use Rattle.rz_elf.specs.Stamped.{is_stamped};
+ghost use Rattle.rz_elf.specs.Stamped.{stamp_of};
 ghost use Rattle.rz_elf.specs.WrittenFile.{new_image, written_file};
 
 use crate::header_page::{PAGE, push_header_page, push_zeros};
@@ -24,7 +25,7 @@ pub fn write_elf(alloc: Global, elf: &Elf, parts: &Parts, entry: u64) -> Result<
     requires room { no_room (extent_of elf.now.bytes) (parts_size parts.now) ≡ None }
     ensures file { IfOk result (λ w. w ≡ written_file elf.now.bytes parts.now entry) }
     ensures accepted { IfOk result (λ w. fault_of w ≡ None) }
-    ensures stamped { IfOk result (λ w. IsTrue (is_stamped (elf_of w))) }
+    ensures stamped { IfOk result (λ w. stamp_of (elf_of w) ≡ Some stamp_number) }
     ensures image { IfOk result (λ w. image_of w ≡ new_image (image_of elf.now.bytes) parts.now entry) }
 {
     let file = elf.bytes.as_slice();

@@ -1,5 +1,6 @@
 -- The emitted code: what each item's instruction spells at its place, and INT3 behind the last.
-use Rattle.std.specs.Prelude.{◌≡◌, ℕ, suc, ◌-◌, ◌≤◌, List, [], ◌∷◌, ◌++◌, length, map, take, drop, replicate, Option, Some, None, IsSomeAnd, slice_get}
+use Rattle.std.specs.Prelude.{◌≡◌, ℕ, suc, ◌-◌, ◌≤◌, List, [], ◌∷◌, ◌++◌, length, map, take, drop, Option, Some, None, IsSomeAnd, slice_get}
+use Rattle.rz_elf.specs.AddedRange.{filled}
 use Rattle.rz_isa.specs.declared.rows.Row.{Row}
 use Rattle.rz_isa.specs.declared.rows.Form.{Form}
 use Rattle.rz_isa.specs.declared.instruction.Insn.{Insn}
@@ -10,7 +11,7 @@ use Rattle.rz_isa.specs.Items.{slots, label_address, resolved}
 use Rattle.rz_isa.specs.Plan.{form_at, item_len, offset, place, code_end, IsPlan}
 use Rattle.rz_encode.specs.Laws.{DecodesTo}
 use Rattle.rz_layout.specs.declared.plan.Layout.{Layout}
-use Rattle.rz_layout.specs.Layout.{nodes_of, forms_of, IsAscending, ArePlaces}
+use Rattle.rz_layout.specs.Layout.{nodes_of, IsAscending, ArePlaces}
 
 -- ---- what can be emitted
 
@@ -26,9 +27,9 @@ pub record IsOrdered (frags : Fragments) : Type 0 where
 
 -- a layout of fragments: a plan with its places, whose code ends at or below `stubs`
 pub record IsLayoutOf (rows : List Row) (frags : Fragments) (laid : Layout) : Type 0 where
-  pub plan : IsPlan rows frags laid.base (forms_of laid)
-  pub places : ArePlaces rows frags laid.base (forms_of laid) laid.places
-  pub ends : code_end rows frags laid.base (forms_of laid) ≤ laid.stubs
+  pub plan : IsPlan rows frags laid.base laid.forms
+  pub places : ArePlaces rows frags laid.base laid.forms laid.places
+  pub ends : code_end rows frags laid.base laid.forms ≤ laid.stubs
 
 -- ---- the bytes
 
@@ -60,13 +61,9 @@ bytes_from rows frags base forms k (s ∷ rest) =
 abbrev pub code_bytes : List Row → Fragments → ℕ → List Form → List ℕ
 code_bytes rows frags base forms = bytes_from rows frags base forms 0 (slots frags)
 
--- bytes filled up to a size with INT3 (Intel SDM, volume 2, "INT n/INTO/INT3/INT1")
-abbrev pub filled : ℕ → List ℕ → List ℕ
-filled size bytes = bytes ++ replicate (size - length bytes) 0xcc
-
 -- the part from `base` to `stubs`
 abbrev pub emitted : List Row → Fragments → Layout → List ℕ
-emitted rows frags laid = filled (laid.stubs - laid.base) (code_bytes rows frags laid.base (forms_of laid))
+emitted rows frags laid = filled (laid.stubs - laid.base) (code_bytes rows frags laid.base laid.forms)
 
 -- ---- what the bytes hold
 

@@ -3,12 +3,14 @@
 ghost use Rattle.std.specs.Prelude.{◌≡◌, ◌≤◌, ◌<◌, ◌+◌, ◌^◌, ◌++◌, length, Some, IsSome, All, IfOk, OnOk};
 ghost use Rattle.rz_isa.specs.Canonical.{canonical};
 ghost use Rattle.rz_isa.specs.Plan.{form_at as form_of_number};
-ghost use Rattle.rz_layout.specs.Layout.{forms_of, AreFirst};
-ghost use Rattle.rz_emit.specs.Emitted.{emitted, filled as filled_up, spelling, HoldsItems, IsLayoutOf, IsOrdered};
+ghost use Rattle.rz_layout.specs.Layout.{AreFirst};
+ghost use Rattle.rz_elf.specs.AddedRange.{filled as filled_up};
+ghost use Rattle.rz_emit.specs.Emitted.{emitted, spelling, HoldsItems, IsLayoutOf, IsOrdered};
 ghost use Rattle.rz_emit.specs.Calls.Lengths.{slot_place, IsChosen};
 
 use crate::length::item_len;
 use crate::lookup::Standing;
+use rz_elf::format::INT3;
 use rz_encode::encode;
 use rz_encode::laws::decodes_back;
 use rz_isa::{Form, Fragments, Insn, InsnTable, Slot};
@@ -29,7 +31,7 @@ pub fn emit<T: InsnTable>(
     requires ordered { IsOrdered frags.now }
     requires laid { IsLayoutOf T.rows frags.now laid.now }
     ensures value { IfOk result (λ bytes. bytes ≡ emitted T.rows frags.now laid.now) }
-    ensures items { IfOk result (λ bytes. HoldsItems T.rows frags.now laid.now.base (forms_of laid.now) bytes) }
+    ensures items { IfOk result (λ bytes. HoldsItems T.rows frags.now laid.now.base laid.now.forms bytes) }
 {
     decodes_back::<T>();
     order_numbers();
@@ -63,10 +65,10 @@ fn distance(from: u64, to: u64) -> u64
 // Where items end that stand by a layout.
 fn code_end<T: InsnTable>(slots: &[Slot], laid: &Layout) -> u64
     requires places { AreFirst (length slots.now)
-        (slot_place T.rows slots.now laid.now.base (forms_of laid.now)) laid.now.places }
+        (slot_place T.rows slots.now laid.now.base laid.now.forms) laid.now.places }
     requires chosen { All (λ s. IsChosen T.rows s.item) slots.now }
-    requires low { slot_place T.rows slots.now laid.now.base (forms_of laid.now) (length slots.now) < 2 ^ 64 }
-    ensures { result ≡ slot_place T.rows slots.now laid.now.base (forms_of laid.now) (length slots.now) }
+    requires low { slot_place T.rows slots.now laid.now.base laid.now.forms (length slots.now) < 2 ^ 64 }
+    ensures { result ≡ slot_place T.rows slots.now laid.now.base laid.now.forms (length slots.now) }
 {
     match slots.len().checked_sub(1) {
         None => laid.base,
@@ -91,11 +93,11 @@ fn emit_insn<T: InsnTable>(
 
 // The form of the item of a number.
 fn form_at(laid: &Layout, k: usize) -> Form
-    ensures { result ≡ form_of_number (forms_of laid.now) k }
+    ensures { result ≡ form_of_number laid.now.forms k }
 {
     match laid.forms.as_slice().get(k) {
-        None | Some(0) => Form::Near,
-        Some(_) => Form::Short,
+        None => Form::Near,
+        Some(form) => *form,
     }
 }
 
@@ -105,6 +107,6 @@ fn filled(bytes: Bytes, size: u64) -> Result<Bytes, OutOfMemory>
     ensures { IfOk result (λ list. list ≡ filled_up size bytes) }
 {
     let mut items = bytes.into_vec();
-    items.resize(size as usize, 0xcc)?;
+    items.resize(size as usize, INT3)?;
     Ok(Bytes::from_vec(items))
 }

@@ -32,7 +32,7 @@ use Rattle.rz_sys.specs.Laws.Alike.{CalledAlike, answer_alike, world_after_alike
 use Rattle.rz_exec.specs.Laws.OneForm.{CompletionAlike, carry_alike, complete_alike}
 use Rattle.rz_machine.specs.Simulates.{InsnAt, HasCode, Stand, Follows}
 use Rattle.rz_machine.specs.Laws.Comes.{decodes_to, step_is, moved, jump_is, branch_is, count_is, halt_is, Comes, stay, one_more, weaker, jump_comes}
-use Rattle.rz_frag.specs.Fragment.{mov_number, push_number}
+use Rattle.rz_machine.specs.Sequence.{mov_number, push_number}
 
 -- from p a run comes to q: the two are one, or a jump stands there
 pub data Onto (dec : Decoder) (m : Regions) (p q : ℕ) : Type 0 where

@@ -21,7 +21,8 @@ use Rattle.rz_machine.specs.State.{step}
 use Rattle.rz_machine.specs.Touches.{StepClear, WayClear}
 use Rattle.rz_machine.specs.Simulates.{InsnAt, ItemAt, ItemsFrom, Stand, Follows, Simulates, label_at, leads}
 use Rattle.rz_machine.specs.Laws.Ways.{kind_in, kind_by_way}
-use Rattle.rz_frag.specs.Fragment.{to_label, jump_to, mov_number, push_number, items_by, FragmentsSimulate}
+use Rattle.rz_machine.specs.Sequence.{to_label, jump_to, mov_number, push_number, items_by}
+use Rattle.rz_frag.specs.Fragment.{FragmentsSimulate}
 use Rattle.rz_frag.proofs.Follows.{Onto, Falls, ByJump, plain_follows, jump_follows, branch_follows, count_follows, halt_follows, syscall_follows, push_follows, insn_clear}
 
 module _ (dec : Decoder) (keeps : ℕ → Bool) (lay : Layout) (place own : ℕ → ℕ) (wm : Regions) (a : ℕ) where

@@ -26,7 +26,8 @@ use Rattle.rz_machine.specs.declared.way.Way.{Way}
 use Rattle.rz_machine.specs.declared.way.Way.TheVariants.{Onward, Jumps, Branches, BranchesOnRcx, Transfers, Calls, Halts}
 use Rattle.rz_machine.specs.Way.{way_of}
 use Rattle.rz_machine.specs.Laws.Ways.{kind_in, kind_by_way, target_in, target_by_way}
-use Rattle.rz_frag.specs.Fragment.{to_label, jump_to, mov_number, push_number, items_by, FragmentsAreSized}
+use Rattle.rz_machine.specs.Sequence.{to_label, jump_to, mov_number, push_number, items_by}
+use Rattle.rz_frag.specs.Fragment.{FragmentsAreSized}
 
 -- ---- lengths
 

@@ -9,7 +9,7 @@ ghost use Rattle.rz_isa.specs.Spells.{Spells};
 ghost use Rattle.rz_isa.specs.Targets.{NamesLow};
 ghost use Rattle.rz_machine.specs.Kept.{has_edge};
 ghost use Rattle.rz_machine.specs.Simulates.{Simulates};
-ghost use Rattle.rz_frag.specs.Fragment.{fragment_items, jump_to as jump_to_of, mov_number as mov_number_of, push_number as push_number_of, to_label};
+ghost use Rattle.rz_machine.specs.Sequence.{fragment_items, jump_to as jump_to_of, mov_number as mov_number_of, push_number as push_number_of, to_label};
 
 use crate::laws::{fragments_are_sized, fragments_simulate};
 use rz_aset::{EdgeSet, Record};

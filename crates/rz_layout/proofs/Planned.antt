@@ -1,5 +1,5 @@
 -- Forms of pieces are forms of items: what is a plan of the one is a plan of the other.
-use Rattle.std.proofs.Common.{◌≡◌, ℕ, suc, ◌+◌, ◌^◌, ◌<◌, ◌≤◌, Bool, true, false, ◌==◌, if◌then◌else◌, List, [], ◌∷◌, length, map, get_or, Option, Some, None, refl, sym, ◌∙◌, ap, subst, arith, ◌⊎◌, inl, inr}
+use Rattle.std.proofs.Common.{◌≡◌, ℕ, suc, ◌+◌, ◌^◌, ◌<◌, ◌≤◌, Bool, true, false, ◌==◌, if◌then◌else◌, List, [], ◌∷◌, length, get_or, Option, Some, None, refl, sym, ◌∙◌, ap, subst, arith, ◌⊎◌, inl, inr}
 use Rattle.std.specs.Prelude.{nat_lt, slice_get, All, IsSome, IsSomeAnd, is_some}
 use Rattle.std.specs.Option.{option_map}
 use Rattle.std.proofs.lemmas.List.{get_or_past}
@@ -26,7 +26,7 @@ use Rattle.rz_encode.specs.Length.{SameLengths}
 use Rattle.rz_layout.specs.declared.piece.Piece.{Piece}
 use Rattle.rz_layout.specs.declared.piece.Piece.TheVariants.{Fixed, Jump}
 use Rattle.rz_isa.specs.Sizes.{is_code, CanMove}
-use Rattle.rz_layout.specs.Layout.{all_near, AreLow, form_of, number_of, ArePlaces}
+use Rattle.rz_layout.specs.Layout.{all_near, AreLow, ArePlaces}
 use Rattle.rz_layout.specs.Calls.Pieces.{piece_at, piece_offset, len_of, MayBeShortAt, IsPiecePlan, IsLeastForms, ArePlaces as ArePiecePlaces}
 use Rattle.rz_layout.specs.Calls.Ordered.{number_or_first, jump_piece, item_piece, pieces_of, IsChosen, IsChosenItem}
 use Rattle.rz_layout.proofs.Offsets.{offset_more, offset_up, offset_down, reaches_two, may_be_short, short_reaches, fixed_not_short}
@@ -353,7 +353,7 @@ module _ (rows : List Row) (frags : Fragments) (base : ℕ) where
               placed = λ k s is. item_placed k s is s.item refl (form_at forms k) refl;
             }
 
--- ---- places, and numbers of forms
+-- ---- places
 
 pub item_places : (rows : List Row) (frags : Fragments) (base : ℕ) (forms : List Form) (places : List ℕ) → ArePiecePlaces (pieces_of rows frags) base forms places → ArePlaces rows frags base forms places
 item_places rows frags base forms places are =
@@ -362,8 +362,3 @@ item_places rows frags base forms places are =
       each = are.each ∙ count;
       at = λ k h. are.at k (rw count h) ∙ ap (λ n. base + n) (offset_same rows frags forms k);
     }
-
-pub same_forms : (forms : List Form) → map form_of (map number_of forms) ≡ forms
-same_forms [] = refl
-same_forms (Near ∷ rest) = ap (λ l. Near ∷ l) (same_forms rest)
-same_forms (Short ∷ rest) = ap (λ l. Short ∷ l) (same_forms rest)

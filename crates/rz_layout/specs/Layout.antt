@@ -1,14 +1,13 @@
 -- What can be laid out, and what a layout says.
-use Rattle.std.specs.Prelude.{◌≡◌, ℕ, ◌^◌, ◌<◌, ◌==◌, List, [], ◌∷◌, length, map, replicate, All, slice_index, if◌then◌else◌}
+use Rattle.std.specs.Prelude.{◌≡◌, ℕ, ◌^◌, ◌<◌, List, [], ◌∷◌, length, map, replicate, All, slice_index}
 use Rattle.std.specs.List.{AllByRecursion}
 use Rattle.rz_isa.specs.declared.rows.Row.{Row}
 use Rattle.rz_isa.specs.declared.rows.Form.{Form}
-use Rattle.rz_isa.specs.declared.rows.Form.TheVariants.{Near, Short}
+use Rattle.rz_isa.specs.declared.rows.Form.TheVariants.{Near}
 use Rattle.rz_isa.specs.declared.fragment_list.Fragment.{Fragment}
 use Rattle.rz_isa.specs.declared.fragment_list.Fragments.{Fragments}
 use Rattle.rz_isa.specs.Items.{Places, slots}
 use Rattle.rz_isa.specs.Plan.{place}
-use Rattle.rz_layout.specs.declared.plan.Layout.{Layout}
 
 -- ---- what can be laid out
 
@@ -29,17 +28,6 @@ abbrev pub AreLow : List (ℕ × ℕ) → Type 0
 AreLow pairs = All (λ p. p.1 < 2 ^ 31) pairs
 
 -- ---- what a layout says
-
--- a form as a byte: 0 is Near, 1 is Short
-abbrev pub number_of : Form → ℕ
-number_of Near = 0
-number_of Short = 1
-
-abbrev pub form_of : ℕ → Form
-form_of n = if n == 0 then Near else Short
-
-abbrev pub forms_of : Layout → List Form
-forms_of laid = map form_of laid.forms
 
 -- the first so many places, in their order
 pub record AreFirst (count : ℕ) (places : Places) (list : List ℕ) : Type 0 where

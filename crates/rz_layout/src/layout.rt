@@ -1,18 +1,18 @@
 //! The least layout of fragments.
 
-ghost use Rattle.std.specs.Prelude.{◌≡◌, ◌^◌, ◌<◌, ◌≤◌, map, All, IfOk};
+ghost use Rattle.std.specs.Prelude.{◌≡◌, ◌^◌, ◌<◌, ◌≤◌, All, IfOk};
 ghost use Rattle.rz_isa.specs.Items.{slots};
 ghost use Rattle.rz_isa.specs.Plan.{code_end, IsPlan, IsLeastPlan};
-ghost use Rattle.rz_layout.specs.Layout.{all_near, nodes_of, number_of, forms_of, IsAscending, AreLow, ArePlaces};
+ghost use Rattle.rz_layout.specs.Layout.{all_near, nodes_of, IsAscending, AreLow, ArePlaces};
 ghost use Rattle.rz_isa.specs.Sizes.{CanMove};
 
 use crate::pieces::pieces_of;
-use crate::plan::Layout;
+use crate::plan::{Forms, Layout};
 use crate::sizes::{least_forms, places_of};
 use rz_encode::laws::canonical_lengths;
 use rz_isa::laws::{emits, spelled_within};
-use rz_isa::{Form, Fragments, InsnTable};
-use rz_num::{Bytes, OutOfMemory};
+use rz_isa::{Fragments, InsnTable};
+use rz_num::OutOfMemory;
 use std::alloc::Global;
 
 /// The least plan of fragments in ascending order, from the address `base` on: a jump is near in
@@ -32,11 +32,10 @@ pub fn layout<T: InsnTable>(
     requires items { All (λ s. CanMove s.item) (slots frags.now) }
     requires low_stubs { AreLow frags.now.stubs }
     ensures parts { IfOk result (λ laid. (laid.base ≡ base) × (laid.stubs ≡ stubs)) }
-    ensures forms { IfOk result (λ laid. laid.forms ≡ map number_of (forms_of laid)) }
-    ensures plan { IfOk result (λ laid. IsPlan T.rows frags.now base (forms_of laid)) }
-    ensures places { IfOk result (λ laid. ArePlaces T.rows frags.now base (forms_of laid) laid.places) }
-    ensures least { IfOk result (λ laid. IsLeastPlan T.rows frags.now base (forms_of laid)) }
-    ensures within { IfOk result (λ laid. code_end T.rows frags.now base (forms_of laid) ≤ stubs) }
+    ensures plan { IfOk result (λ laid. IsPlan T.rows frags.now base laid.forms) }
+    ensures places { IfOk result (λ laid. ArePlaces T.rows frags.now base laid.forms laid.places) }
+    ensures least { IfOk result (λ laid. IsLeastPlan T.rows frags.now base laid.forms) }
+    ensures within { IfOk result (λ laid. code_end T.rows frags.now base laid.forms ≤ stubs) }
 {
     emits::<T>();
     spelled_within::<T>();
@@ -44,25 +43,10 @@ pub fn layout<T: InsnTable>(
     let pieces = pieces_of::<T>(alloc, frags)?;
     let forms = least_forms(alloc, pieces.as_slice())?;
     let places = places_of(alloc, pieces.as_slice(), forms.as_slice(), base)?;
-    let forms = form_bytes(alloc, forms.as_slice())?;
     Ok(Layout {
         base,
         stubs,
         places,
-        forms,
+        forms: Forms::from_vec(forms),
     })
-}
-
-// Forms as bytes.
-fn form_bytes(alloc: Global, forms: &[Form]) -> Result<Bytes, OutOfMemory>
-    ensures { IfOk result (λ bytes. bytes ≡ map number_of forms.now) }
-{
-    let mut bytes = Bytes::new(alloc);
-    for form in forms {
-        bytes.push(match *form {
-            Form::Near => 0,
-            Form::Short => 1,
-        })?;
-    }
-    Ok(bytes)
 }

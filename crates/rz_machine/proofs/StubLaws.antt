@@ -5,7 +5,7 @@ use Rattle.std.proofs.lemmas.Bool.Decides.{nat_tests}
 use Rattle.byteorder.specs.Endian.{little_from, little_number}
 use Rattle.rz_image.specs.declared.region.Region.{Region}
 use Rattle.rz_image.specs.Memory.{contains}
-use Rattle.rz_elf.specs.AddedRange.{stub_size}
+use Rattle.rz_elf.specs.Format.{stub_size, stub_word_at}
 use Rattle.rz_machine.specs.Stub.{word_in, stub_in}
 
 -- lists with the same bytes have the same number
@@ -31,13 +31,13 @@ word-none r place size e past =
 pub stub-none_outside : (at : ℕ) (r : Region) (size place : ℕ) → length r.bytes ≡ size → r.base ≤ at → place ≡ at - r.base → size ≤ place → None ≡ stub_in at r
 stub-none_outside at r size place e low p past =
     let test : contains r at ≡ false = grind (arith, nat_tests) in
-    sym (ap (λ b. if b && (at - r.base) % stub_size == 0 then word_in r (at - r.base + 8) else None) test)
+    sym (ap (λ b. if b && (at - r.base) % stub_size == 0 then word_in r (at - r.base + stub_word_at) else None) test)
 
 stub_in-none : (b t : Bool) (w : Option ℕ) → t ≡ false → (if b && t then w else None) ≡ None
 stub_in-none true t w e = ap (λ x. if x then w else None) e
 stub_in-none false t w e = refl
 
-pub stub-none_between : (at : ℕ) (r : Region) (place : ℕ) → place ≡ at - r.base → (place % 24 ≡ 0 → ⊥) → None ≡ stub_in at r
+pub stub-none_between : (at : ℕ) (r : Region) (place : ℕ) → place ≡ at - r.base → (place % stub_size ≡ 0 → ⊥) → None ≡ stub_in at r
 stub-none_between at r place p apart =
     let test : ((at - r.base) % stub_size == 0) ≡ false = grind (arith, nat_tests) in
-    sym (stub_in-none (contains r at) ((at - r.base) % stub_size == 0) (word_in r (at - r.base + 8)) test)
+    sym (stub_in-none (contains r at) ((at - r.base) % stub_size == 0) (word_in r (at - r.base + stub_word_at)) test)

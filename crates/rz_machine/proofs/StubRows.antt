@@ -2,12 +2,12 @@
 use Rattle.std.proofs.Common.{◌≡◌, ℕ, [], ◌∷◌, take, Some, None, refl}
 use Rattle.rz_image.specs.declared.region.Region.{Region}
 use Rattle.rz_image.specs.Perm.{read_execute}
-use Rattle.rz_elf.specs.AddedRange.{all_stubs}
+use Rattle.rz_elf.specs.Format.{all_stubs}
 use Rattle.rz_machine.specs.Stub.{stub_in}
 
 -- the first bytes of the two stubs, as many as are said
 abbrev stubs : ℕ → Region
-stubs n = record { base = 0x3ff000; bytes = take n (all_stubs (0x401000 ∷ 0x401005 ∷ [])); opened = n; perm = read_execute }
+stubs n = record { base = 0x3ff000; bytes = take n (all_stubs 0x3ff000 (0x401000 ∷ 0x401005 ∷ [])); opened = n; perm = read_execute }
 
 first : stub_in 0x3ff000 (stubs 48) ≡ Some 0x401000
 first = refl

@@ -2,7 +2,8 @@
 use Rattle.std.specs.Prelude.{ℕ, ◌+◌, ◌*◌, if◌then◌else◌, ◌==◌, List, [], ◌∷◌, length, filter}
 use Rattle.rz_image.specs.Memory.{Range}
 use Rattle.rz_elf.specs.Elf.{Image}
-use Rattle.rz_elf.specs.AddedRange.{Added, stub_size, tables_size, code_size, stubs_size, lowest, page_floor, parts_below}
+use Rattle.rz_elf.specs.Format.{stub_size}
+use Rattle.rz_elf.specs.AddedRange.{Added, tables_size, code_size, stubs_size, lowest, page_floor, parts_below}
 use Rattle.rz_isa.specs.Nodes.{Decoder}
 use Rattle.rz_machine.specs.Kept.{Edges, Kept, sorted, sorted_edges}
 use Rattle.rz_isa.specs.Nodes.{Code, is_site_at}
@@ -40,6 +41,7 @@ index_of (b ∷ bs) a = if b == a then 0 else 1 + index_of bs a
 -- where the parts of a written file lie
 pub record Layout : Type 0 where
   pub added : Range
+  pub tables : Range
   pub code : Range
   -- the place of an address's stub
   pub stub : ℕ → ℕ
@@ -48,6 +50,7 @@ abbrev pub layout_in : List ℕ → Added → Layout
 layout_in nodes a =
     record {
       added = record { low = a.scratch; high = a.stop };
+      tables = record { low = a.tables; high = a.code };
       code = record { low = a.code; high = a.stubs };
       stub = λ at. a.stubs + stub_size * index_of nodes at;
     }

@@ -42,9 +42,10 @@ abbrev pub AlikeEnds : Range → Option End → Option End → Type 0
 AlikeEnds code (Some (end.Illegal a)) (Some (end.Illegal b)) = (a ≡ b) ⊎ IsInside code b
 AlikeEnds code e f = e ≡ f
 
--- the new run stands at a stub: its next step ends it there
-abbrev pub StopsAtStub : Decoder → Machine → Type 0
-StopsAtStub dec s = (step dec s).end ≡ Some (end.Illegal s.cpu.rip)
+-- the old run leaves the kept edges by its next step, and the new one stands at the stub of the instruction that it leaves:
+-- its own next step ends it there
+abbrev pub StopsAtStub : Decoder → Layout → (s t : Machine) → Type 0
+StopsAtStub dec lay s t = (step dec t).end ≡ Some (end.Illegal (lay.stub s.cpu.rip))
 
 -- the new file's run from w keeps the old file's run from x
 pub record KeepsRun (dec : Decoder) (edges : Edges) (lay : Layout) (x w : Machine) : Type 0 where
@@ -58,7 +59,7 @@ pub record KeepsRun (dec : Decoder) (edges : Edges) (lay : Layout) (x w : Machin
   pub cut : (j : ℕ) → RunClear lay.added dec x (suc j) → IsCut dec edges x j
       → (m : ℕ) × (j < m) × ((after dec m w).end ≡ None) × Same lay.added (after dec (suc j) x) (after dec m w)
       × ((after dec m w).cpu.rip ≡ lay.stub (after dec j x).cpu.rip)
-      × StopsAtStub dec (after dec m w)
+      × StopsAtStub dec lay (after dec j x) (after dec m w)
 
 -- the file w keeps each run of the file x, for the kept nodes and edges
 abbrev pub Keeps : Decoder → List ℕ → List ℕ → Kept → Type 0

@@ -8,6 +8,7 @@ pub mod Start
 pub mod Begun
 pub mod Nodes
 pub mod Added
+pub mod Sequence
 pub mod Keeps
 pub mod WrittenFile
 pub mod Pace

@@ -1,5 +1,5 @@
 -- Placements: where the items that stand for each kept instruction are found in a new file's memory, in any spelling.
-use Rattle.std.specs.Prelude.{◌≡◌, ℕ, ◌+◌, ◌≤◌, true, List}
+use Rattle.std.specs.Prelude.{◌≡◌, ℕ, ◌+◌, ◌≤◌, true, List, [], ◌∷◌}
 use Rattle.rz_isa.specs.declared.decoding.Decoded.TheVariants as decoded
 use Rattle.rz_isa.specs.declared.instruction.Insn.{Insn}
 use Rattle.rz_isa.specs.declared.instruction.Insn.TheVariants as insn
@@ -14,7 +14,7 @@ use Rattle.rz_machine.specs.Start.{start, HasHeapRoom}
 use Rattle.rz_machine.specs.Added.{Layout}
 use Rattle.rz_machine.specs.Keeps.{KeepsRun}
 use Rattle.rz_machine.specs.Pace.{Paced}
-use Rattle.rz_machine.specs.Simulates.{InsnAt, ItemsFrom, HasScratch, Simulates, label_at}
+use Rattle.rz_machine.specs.Simulates.{InsnsFrom, ItemsFrom, HasScratch, Simulates, label_at}
 
 -- items that simulate the instruction y at a, before n, stand at the place of a
 pub record FragmentAt (dec : Decoder) (edges : Edges) (lay : Layout) (place : ℕ → ℕ) (bound : ℕ) (m : Regions) (a n : ℕ) (y : Insn) : Type 0 where
@@ -24,11 +24,16 @@ pub record FragmentAt (dec : Decoder) (edges : Edges) (lay : Layout) (place : �
   pub stand : ItemsFrom dec m (label_at lay place own) own 0 (place a) items
   pub inside : IsInside lay.code (place a)
 
--- in a memory the fragment of each kept node stands at its place, UD2 at its stub, and the scratch page may be used
+-- the instructions of the stub that stands at an address, each with its length
+abbrev pub stub_insns : (at : ℕ) → List (Insn × ℕ)
+stub_insns at = (insn.Ud2, 2) ∷ []
+
+-- in a memory the fragment of each kept node stands at its place, so do the instructions of its stub, and the scratch page may
+-- be used
 pub record IsPlacement (dec : Decoder) (x : Image) (kept : Kept) (lay : Layout) (place bound : ℕ → ℕ) (m : Regions) : Type 0 where
   pub fragments : (a : ℕ) → has_node kept.nodes a ≡ true → (y : Insn) (len : ℕ) → dec (fetch x.loads a 15) a ≡ decoded.Insn y len
       → FragmentAt dec kept.edges lay place (bound a) m a (wrap (a + len)) y
-  pub stubs : (a : ℕ) → has_node kept.nodes a ≡ true → (next : ℕ) × InsnAt dec m (lay.stub a) insn.Ud2 next
+  pub stubs : (a : ℕ) → has_node kept.nodes a ≡ true → InsnsFrom dec m (lay.stub a) (stub_insns (lay.stub a))
   pub scratch : HasScratch lay.added.low lay.added m
 
 -- the new image w begins at the place of the old entry, in a memory that has such a placement and is else that of x;

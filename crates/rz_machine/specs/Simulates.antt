@@ -25,6 +25,11 @@ pub record InsnAt (dec : Decoder) (m : Regions) (p : ℕ) (x : Insn) (next : ℕ
   pub spelled : dec (fetch m p 15) p ≡ decoded.Insn x len
   pub ends : wrap (p + len) ≡ next
 
+-- instructions of these lengths stand one after the other from p on
+abbrev pub InsnsFrom : Decoder → Regions → ℕ → List (Insn × ℕ) → Type 0
+InsnsFrom dec m p [] = Unit {0}
+InsnsFrom dec m p (i ∷ rest) = InsnAt dec m p i.0 (p + i.1) × InsnsFrom dec m (p + i.1) rest
+
 -- what labels name: fragments have places, and `own` are those of the items of the same list;
 -- no table and no routine stands in a new file yet
 abbrev pub label_at : Layout → (place own : ℕ → ℕ) → Addresses

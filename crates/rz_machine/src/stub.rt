@@ -2,42 +2,48 @@
 
 ghost use Rattle.std.specs.Prelude.{◌≡◌, ◌+◌, ◌<◌, ◌^◌, length, get_or};
 ghost use Rattle.rz_elf.specs.Loaded.{IsLoad, loaded_region};
-ghost use Rattle.rz_machine.specs.Stub.{StubsNameNodes, stub_in as stub_of, stub_word_of, word_in as word_of};
+ghost use Rattle.rz_machine.specs.Stub.{StubsNameNodes, illegal_stub as illegal_stub_of, stub_in as stub_of, stub_word_of, word_in as word_of};
 
-use crate::machine::End;
+use crate::machine::{End, Machine};
 use rz_elf::elf::{Elf, Load};
+use rz_elf::format::{STUB_SIZE, STUB_WORD_AT, STUBS_LOAD};
 use rz_elf::stamp::stamped;
 use rz_num::get_u64;
-
-// The number of the load of stubs in a written file, from 0.
-const STUBS: usize = 3;
-
-// The bytes of a stub, and where its word stands in it.
-const STUB_SIZE: u64 = 24;
-
-const WORD_AT: u64 = 8;
 
 // The bytes of a word.
 const WORD: u64 = 8;
 
 /// The word of the stub at which a run of a file ended: the address of the instruction that it left by an edge that isn't
 /// kept. None exactly where it didn't end at a stub, or the file isn't stamped. It takes no memory.
-pub fn stub_word(elf: &Elf, end: End) -> Option<u64>
-    ensures { result ≡ stub_word_of elf.now end }
+pub fn stub_word(elf: &Elf, machine: &Machine) -> Option<u64>
+    ensures { result ≡ stub_word_of elf.now machine.now }
+{
+    let end = machine.end?;
+    stamped(elf)?;
+    illegal_stub(elf, end)
+}
+
+/// In a written file, a run that ended at the stub of a kept instruction ended at a stub with the instruction's address
+/// as its word. It does nothing when it runs.
+pub fn stubs_name_nodes()
+    ensures { StubsNameNodes }
+{}
+
+// The word of the stub at which a run of a file of the first stamp ended: its end is Illegal there.
+fn illegal_stub(elf: &Elf, end: End) -> Option<u64>
+    ensures { result ≡ illegal_stub_of elf.now end }
 {
     match end {
-        End::Illegal(at) if stamped(elf) => {
-            stub_in(elf.bytes.as_slice(), elf.loads.as_slice().get(STUBS)?, at)
+        End::Illegal(at) => {
+            stub_in(
+                elf.bytes.as_slice(),
+                elf.loads.as_slice().get(STUBS_LOAD)?,
+                at,
+            )
         }
         _ => None,
     }
 }
-
-/// In a written file, the stub of each kept instruction has the instruction's address as its word. It does nothing when
-/// it runs.
-pub fn stubs_name_nodes()
-    ensures { StubsNameNodes }
-{}
 
 // The word of the stub that begins at an address of a load.
 fn stub_in(file: &[u8], load: &Load, at: u64) -> Option<u64>
@@ -46,7 +52,7 @@ fn stub_in(file: &[u8], load: &Load, at: u64) -> Option<u64>
 {
     let place = at.checked_sub(load.at)?;
     if place < load.size && place % STUB_SIZE == 0 {
-        word_in(file, load, place + WORD_AT)
+        word_in(file, load, place + STUB_WORD_AT)
     } else {
         None
     }

@@ -1,5 +1,5 @@
 -- What a comparison's loops come to.
-use Rattle.std.proofs.Common.{◌≡◌, ℕ, zero, suc, ◌+◌, ◌<◌, ◌≤◌, Bool, true, false, ◌&&◌, if◌then◌else◌, nat_eq, nat_lt, ◌==◌, List, [], ◌∷◌, length, get_or, drop, refl, sym, ap, ap₂, ◌∙◌, arith, ◌⊎◌, inl, inr, le-ltb, option_and_then}
+use Rattle.std.proofs.Common.{◌≡◌, ℕ, zero, suc, ◌+◌, ◌<◌, ◌≤◌, Bool, true, false, ◌&&◌, if◌then◌else◌, nat_eq, nat_lt, ◌==◌, List, [], ◌∷◌, length, get_or, drop, refl, sym, ap, ap₂, ◌∙◌, arith, ◌⊎◌, inl, inr, le-ltb}
 use Rattle.std.specs.List.{starts_with}
 use Rattle.std.specs.Cmp.Lexicographic.{pointwise}
 use Rattle.std.proofs.Math.Nat.{eq-or-lt_of_le}
@@ -122,9 +122,9 @@ equal_place (x ∷ xs) (y ∷ ys) = go (same_event x y) (pointwise same_event xs
 
 -- ---- the verdict
 
-pub verdict_is : (dec : Decoder) (old new : ElfFile) (limit : ℕ) (input : Input) (wanted found : Ran) (v : Verdict) → wanted ≡ ran_of (after dec limit (first_state old input)) → found ≡ ran_of (new_run dec limit new wanted (first_state new input)) → v ≡ verdict_at (option_and_then (stub_word_of new) found.end) wanted found
+pub verdict_is : (dec : Decoder) (old new : ElfFile) (limit : ℕ) (input : Input) (wanted : Ran) (found : Machine) (v : Verdict) → wanted ≡ ran_of (after dec limit (first_state old input)) → found ≡ new_run dec limit new wanted (first_state new input) → v ≡ verdict_at (stub_word_of new found) wanted (ran_of found)
     → v ≡ verdict_of dec old new limit input
 unfolding verdict_of
 verdict_is dec old new limit input wanted found v first second third =
-    let at = λ (o n : Ran). verdict_at (option_and_then (stub_word_of new) n.end) o n in
-    third ∙ ap₂ at first (second ∙ ap (λ (o : Ran). ran_of (new_run dec limit new o (first_state new input))) first)
+    let at = λ (o : Ran) (n : Machine). verdict_at (stub_word_of new n) o (ran_of n) in
+    third ∙ ap₂ at first (second ∙ ap (λ (o : Ran). new_run dec limit new o (first_state new input)) first)

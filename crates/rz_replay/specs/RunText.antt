@@ -8,6 +8,7 @@ use Rattle.rz_sys.specs.declared.event.Event.{Event}
 use Rattle.rz_elf.specs.Loaded.{ElfFile}
 use Rattle.rz_machine.specs.declared.machine.End.{End}
 use Rattle.rz_machine.specs.declared.machine.End.TheVariants as end
+use Rattle.rz_machine.specs.declared.machine.Machine.{Machine}
 use Rattle.rz_machine.specs.Stub.{stub_word_of}
 
 -- a word as a signed number (two's complement; Intel SDM, volume 1, section 4.2.1.2)
@@ -45,10 +46,13 @@ abbrev pub ended_text : End → Option ℕ → List ℕ
 ended_text why None = end_text why
 ended_text why (Some word) = codes "stub " ++ hex_text word
 
-abbrev pub last_line : ElfFile → Option End → List ℕ
-last_line elf None = codes "running\n"
-last_line elf (Some why) = ended_text why (stub_word_of elf why) ++ 10 ∷ []
+abbrev pub last_text : Option End → (stub : Option ℕ) → List ℕ
+last_text None stub = codes "running\n"
+last_text (Some why) stub = ended_text why stub ++ 10 ∷ []
 
--- the text of a run of a file, by its system calls and its end
-abbrev pub run_text_of : ElfFile → List Event → Option End → List ℕ
-run_text_of elf events why = flat_map call_line events ++ last_line elf why
+abbrev pub last_line : ElfFile → Machine → List ℕ
+last_line elf s = last_text s.end (stub_word_of elf s)
+
+-- the text of a run of a file: its system calls, and its end
+abbrev pub run_text_of : ElfFile → Machine → List ℕ
+run_text_of elf s = flat_map call_line s.world.events ++ last_line elf s

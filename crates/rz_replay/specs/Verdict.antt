@@ -1,5 +1,5 @@
 -- The verdict on a new file: whether its run does what the old file's run does, on the same input.
-use Rattle.std.specs.Prelude.{ℕ, zero, suc, ◌+◌, ◌*◌, Bool, true, false, ◌&&◌, ◌||◌, if◌then◌else◌, nat_eq, nat_lt, ◌==◌, List, [], ◌∷◌, length, Option, Some, None, is_some, option_and_then}
+use Rattle.std.specs.Prelude.{ℕ, zero, suc, ◌+◌, ◌*◌, Bool, true, false, ◌&&◌, ◌||◌, if◌then◌else◌, nat_eq, nat_lt, ◌==◌, List, [], ◌∷◌, length, Option, Some, None, is_some}
 use Rattle.std.specs.List.{starts_with}
 use Rattle.std.specs.Cmp.Lexicographic.{pointwise}
 use Rattle.rz_elf.specs.Executable.{executable_size}
@@ -91,5 +91,5 @@ ran_of s = record { events = s.world.events; end = s.end }
 unfoldable pub verdict_of : Decoder → (old new : ElfFile) → (limit : ℕ) → Input → Verdict
 verdict_of dec old new limit input =
     let o = ran_of (after dec limit (first_state old input)) in
-    let n = ran_of (new_run dec limit new o (first_state new input)) in
-    verdict_at (option_and_then (stub_word_of new) n.end) o n
+    let n = new_run dec limit new o (first_state new input) in
+    verdict_at (stub_word_of new n) o (ran_of n)

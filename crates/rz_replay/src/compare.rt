@@ -1,12 +1,11 @@
 //! Comparing the runs of two files.
 
-ghost use Rattle.std.specs.Prelude.{◌≡◌, ◌≤◌, ◌<◌, option_and_then, OnOk, IfOk};
+ghost use Rattle.std.specs.Prelude.{◌≡◌, ◌≤◌, ◌<◌, OnOk, IfOk};
 ghost use Rattle.std.specs.List.{starts_with};
 ghost use Rattle.std.specs.Cmp.Lexicographic.{pointwise};
 ghost use Rattle.rz_isa.specs.Decoded.{decoded};
 ghost use Rattle.rz_machine.specs.Start.{first_state};
 ghost use Rattle.rz_machine.specs.State.{after};
-ghost use Rattle.rz_machine.specs.Stub.{stub_word_of};
 ghost use Rattle.rz_sys.specs.Input.{IsValid};
 ghost use Rattle.rz_replay.specs.Verdict.{agree as agree_of, first_difference as place_of, is_decided as is_decided_of, new_run, ran_of, same_end, same_event, until_decided as until_decided_of, verdict_at, verdict_of};
 
@@ -60,16 +59,17 @@ pub fn compare<T: InsnTable>(
     ensures verdict { IfOk result
         (λ verdict. verdict ≡ verdict_of (decoded T.rows) old.now new.now limit input.now) }
 {
-    let wanted = run::<T>(alloc, old, limit, input)?;
-    let found = run_beside::<T>(alloc, new, limit, input, &wanted)?;
-    Ok(judge(new, &wanted, &found))
+    let wanted = came_to(run::<T>(alloc, old, limit, input)?);
+    let machine = run_beside::<T>(alloc, new, limit, input, &wanted)?;
+    let stub = stub_word(new, &machine);
+    Ok(judge(stub, &wanted, &came_to(machine)))
 }
 
-// The verdict on what a new file's run came to.
-fn judge(elf: &Elf, old: &Ran, new: &Ran) -> Verdict
-    ensures { result ≡ verdict_at (option_and_then (stub_word_of elf.now) new.now.end) old.now new.now }
+// The verdict on what a new file's run came to, by the word of the stub at which it ended, if it ended at one.
+fn judge(stub: Option<u64>, old: &Ran, new: &Ran) -> Verdict
+    ensures { result ≡ verdict_at stub old.now new.now }
 {
-    if let Some(word) = stub_of(elf, new.end) {
+    if let Some(word) = stub {
         return Verdict::Stub(word);
     }
     let place = first_difference(old.events.as_slice(), new.events.as_slice());
@@ -78,13 +78,6 @@ fn judge(elf: &Elf, old: &Ran, new: &Ran) -> Verdict
     } else {
         Verdict::Differ(place)
     }
-}
-
-// The word of the stub at which a run ended, if it ended at one.
-fn stub_of(elf: &Elf, end: Option<End>) -> Option<u64>
-    ensures { result ≡ option_and_then (stub_word_of elf.now) end }
-{
-    stub_word(elf, end?)
 }
 
 // Whether two runs did the same, by the first place where their system calls differ.
@@ -164,14 +157,14 @@ fn run<T: InsnTable>(
     elf: &Elf,
     limit: u64,
     input: &Input,
-) -> Result<Ran, OutOfMemory>
+) -> Result<Machine, OutOfMemory>
     requires { IsValid input.now }
     ensures { IfOk result
-        (λ ran. ran ≡ ran_of (after (decoded T.rows) limit (first_state elf.now input.now))) }
+        (λ machine. machine ≡ after (decoded T.rows) limit (first_state elf.now input.now)) }
 {
     let mut machine = start(alloc, elf, input)?;
     machine.run::<T>(alloc, limit)?;
-    Ok(came_to(machine))
+    Ok(machine)
 }
 
 // Runs a new file as far as it has to be run beside what the old one came to within `limit` steps.
@@ -181,11 +174,11 @@ fn run_beside<T: InsnTable>(
     limit: u64,
     input: &Input,
     wanted: &Ran,
-) -> Result<Ran, OutOfMemory>
+) -> Result<Machine, OutOfMemory>
     requires input { IsValid input.now }
     requires limit { limit ≤ 1000000000 }
-    ensures { IfOk result (λ ran. ran
-        ≡ ran_of (new_run (decoded T.rows) limit elf.now wanted.now (first_state elf.now input.now))) }
+    ensures { IfOk result (λ machine. machine
+        ≡ new_run (decoded T.rows) limit elf.now wanted.now (first_state elf.now input.now)) }
 {
     if wanted.end.is_none() {
         return run::<T>(alloc, elf, limit, input);
@@ -193,7 +186,7 @@ fn run_beside<T: InsnTable>(
     let mut machine = start(alloc, elf, input)?;
     let steps = limit * (STEPS + executable_size(elf));
     run_until_decided::<T>(alloc, &mut machine, wanted.events.as_slice().len(), steps)?;
-    Ok(came_to(machine))
+    Ok(machine)
 }
 
 // Runs a machine until it has ended or has made more than so many system calls, for at most `n` steps.

@@ -15,13 +15,13 @@ use std::alloc::{AllocError, Global};
 /// made, and a last one for the end, for the stub at which it ended, or for none. It refuses for want of memory alone.
 pub fn run_text(alloc: Global, machine: &Machine, elf: &Elf) -> Result<Bytes, OutOfMemory>
     ensures { IfOk result
-        (λ text. text ≡ run_text_of elf.now machine.now.world.events machine.now.end) }
+        (λ text. text ≡ run_text_of elf.now machine.now) }
 {
     let mut text = Bytes::new(alloc);
     for event in machine.world.events.as_slice() {
         push_call(alloc, &mut text, event)?;
     }
-    let last = last_line(alloc, elf, machine.end)?;
+    let last = last_line(alloc, elf, machine)?;
     text.push_all(last.as_bytes())?;
     Ok(text)
 }
@@ -65,13 +65,13 @@ fn push_moved(alloc: Global, text: &mut Bytes, bytes: &[u8]) -> Result<(), OutOf
 }
 
 /// The last line of that text: how a run of a file ended, or the stub at which it ended, or that it runs on.
-pub fn last_line(alloc: Global, elf: &Elf, end: Option<End>) -> Result<String, AllocError>
-    ensures { IfOk result (λ line. string_bytes line ≡ line_of_end elf.now end) }
+pub fn last_line(alloc: Global, elf: &Elf, machine: &Machine) -> Result<String, AllocError>
+    ensures { IfOk result (λ line. string_bytes line ≡ line_of_end elf.now machine.now) }
 {
-    let Some(end) = end else {
+    let Some(end) = machine.end else {
         return format!(in alloc; "running\n");
     };
-    match stub_word(elf, end) {
+    match stub_word(elf, machine) {
         Some(word) => format!(in alloc; "stub 0x{word:x}\n"),
         None => end_line(alloc, end),
     }

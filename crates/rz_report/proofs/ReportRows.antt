@@ -1,10 +1,10 @@
 -- Worked rows: both reports, executable bytes, and stubs counted.
-use Rattle.std.proofs.Common.{◌≡◌, ℕ, List, [], ◌∷◌, ◌++◌, Some, refl}
+use Rattle.std.proofs.Common.{◌≡◌, ℕ, List, [], ◌∷◌, ◌++◌, replicate, Some, refl}
 use Rattle.std.specs.Prelude.{codes}
 use Rattle.std.specs.Fmt.{digits}
 use Rattle.rz_image.specs.Memory.{zeros}
 use Rattle.rz_elf.specs.declared.elf.Load.{Load}
-use Rattle.rz_elf.specs.AddedRange.{stub_bytes}
+use Rattle.rz_elf.specs.Format.{int3, stub_size, stub_bytes}
 use Rattle.rz_elf.specs.Loaded.{loaded_region}
 use Rattle.rz_elf.specs.Executable.{executable_in}
 use Rattle.rz_report.specs.Stubs.{stub_count, stubs_in, stubs_of}
@@ -34,29 +34,25 @@ unfolding load
 in_memory = refl
 
 -- a piece of INT3
-filler : List ℕ
-filler =
-    0xcc ∷ 0xcc ∷ 0xcc ∷ 0xcc ∷ 0xcc ∷ 0xcc ∷ 0xcc ∷ 0xcc ∷ 0xcc ∷ 0xcc ∷ 0xcc ∷ 0xcc
-    ∷ 0xcc ∷ 0xcc ∷ 0xcc ∷ 0xcc ∷ 0xcc ∷ 0xcc ∷ 0xcc ∷ 0xcc ∷ 0xcc ∷ 0xcc ∷ 0xcc ∷ 0xcc ∷ []
+abbrev filler : List ℕ
+filler = replicate stub_size int3
 
-two : stubs_in (stub_bytes 0x401000 ++ (stub_bytes 0x401005 ++ filler)) ≡ 2
-unfolding filler
+two : stubs_in (stub_bytes 0x3ff000 0x401000 ++ (stub_bytes 0x3ff018 0x401005 ++ filler)) ≡ 2
 two = refl
 
 -- what follows a piece of other bytes isn't counted
-first_alone : stubs_in (stub_bytes 1 ++ (filler ++ stub_bytes 2)) ≡ 1
-unfolding filler
+first_alone : stubs_in (stub_bytes 0 1 ++ (filler ++ stub_bytes 48 2)) ≡ 1
 first_alone = refl
 
 -- nor a piece that isn't whole
-whole_alone : stubs_in (stub_bytes 1 ++ (0x0f ∷ 0x0b ∷ 0 ∷ [])) ≡ 1
+whole_alone : stubs_in (stub_bytes 0 1 ++ (0x0f ∷ 0x0b ∷ 0 ∷ [])) ≡ 1
 whole_alone = refl
 
 -- the zeros in memory past the bytes of the file make a piece whole, and are no stub
-zeros_behind : stubs_of (Some (loaded_region (stub_bytes 1 ++ (0x0f ∷ 0x0b ∷ [])) (load 72 26 5))) ≡ 2
+zeros_behind : stubs_of (Some (loaded_region (stub_bytes 0 1 ++ (0x0f ∷ 0x0b ∷ [])) (load 72 26 5))) ≡ 2
 unfolding load zeros
 zeros_behind = refl
 
-no_stamp : stub_count (record { bytes = stub_bytes 1; loads = load 24 24 5 ∷ load 24 24 5 ∷ load 24 24 5 ∷ load 24 24 5 ∷ []; entry = 0; first_break = 0 }) ≡ 0
+no_stamp : stub_count (record { bytes = stub_bytes 0 1; loads = load 24 24 5 ∷ load 24 24 5 ∷ load 24 24 5 ∷ load 24 24 5 ∷ []; entry = 0; first_break = 0 }) ≡ 0
 unfolding load
 no_stamp = refl

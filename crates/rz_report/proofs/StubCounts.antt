@@ -5,6 +5,7 @@ use Rattle.std.proofs.lemmas.List.Sums.{prefix_len-drop_yes, prefix_len-drop_no,
 use Rattle.std.specs.List.{prefix_len}
 use Rattle.rz_image.specs.Memory.{zeros}
 use Rattle.rz_elf.specs.declared.elf.Load.{Load}
+use Rattle.rz_elf.specs.Format.{stub_size}
 use Rattle.rz_elf.specs.Loaded.{IsLoad, loaded_region}
 use Rattle.rz_elf.specs.Laws.Loads.{length-loaded, zero_past}
 use Rattle.rz_report.specs.Stubs.{begins_stub, pieces, stubs_in}
@@ -13,38 +14,38 @@ use Rattle.rz_report.specs.Stubs.{begins_stub, pieces, stubs_in}
 
 pub length-pieces : (n : ℕ) (bytes : List ℕ) → length (pieces n bytes) ≡ n
 length-pieces zero bytes = refl
-length-pieces (suc n) bytes = ap suc (length-pieces n (drop 24 bytes))
+length-pieces (suc n) bytes = ap suc (length-pieces n (drop stub_size bytes))
 
-pub get_or-pieces : (n : ℕ) (bytes : List ℕ) (k : ℕ) → k < n → get_or (pieces n bytes) k [] ≡ take 24 (drop (24 * k) bytes)
+pub get_or-pieces : (n : ℕ) (bytes : List ℕ) (k : ℕ) → k < n → get_or (pieces n bytes) k [] ≡ take stub_size (drop (stub_size * k) bytes)
 get_or-pieces zero bytes k h = absurd (omega arith)
 get_or-pieces (suc n) bytes zero h = refl
 get_or-pieces (suc n) bytes (suc k) h =
-    get_or-pieces n (drop 24 bytes) k (omega arith) ∙ ap (take 24) (drop-drop (24 * k) 24 bytes ∙ ap (λ (m : ℕ). drop m bytes) (omega arith))
+    get_or-pieces n (drop stub_size bytes) k (omega arith) ∙ ap (take stub_size) (drop-drop (stub_size * k) stub_size bytes ∙ ap (λ (m : ℕ). drop m bytes) (omega arith))
 
 -- the k pieces before begin as stubs do: one more, the first that doesn't, and none left
-pub stubs-more : (bytes : List ℕ) (size k : ℕ) → length bytes ≡ size → k < size / 24 → begins_stub (take 24 (drop (24 * k) bytes)) ≡ true
-    → k + prefix_len begins_stub (drop k (pieces (length bytes / 24) bytes)) ≡ stubs_in bytes
-    → k + 1 + prefix_len begins_stub (drop (k + 1) (pieces (length bytes / 24) bytes)) ≡ stubs_in bytes
+pub stubs-more : (bytes : List ℕ) (size k : ℕ) → length bytes ≡ size → k < size / stub_size → begins_stub (take stub_size (drop (stub_size * k) bytes)) ≡ true
+    → k + prefix_len begins_stub (drop k (pieces (length bytes / stub_size) bytes)) ≡ stubs_in bytes
+    → k + 1 + prefix_len begins_stub (drop (k + 1) (pieces (length bytes / stub_size) bytes)) ≡ stubs_in bytes
 stubs-more bytes size k e h is so =
-    let count = ap (λ (m : ℕ). m / 24) e in
-    let all = length-pieces (length bytes / 24) bytes in
-    let here = prefix_len-drop_yes begins_stub (pieces (length bytes / 24) bytes) k [] (omega (arith, h, count, all)) (ap begins_stub (get_or-pieces (length bytes / 24) bytes k (omega (arith, h, count))) ∙ is) in
+    let count = ap (λ (m : ℕ). m / stub_size) e in
+    let all = length-pieces (length bytes / stub_size) bytes in
+    let here = prefix_len-drop_yes begins_stub (pieces (length bytes / stub_size) bytes) k [] (omega (arith, h, count, all)) (ap begins_stub (get_or-pieces (length bytes / stub_size) bytes k (omega (arith, h, count))) ∙ is) in
     omega (arith, here, so)
 
-pub stubs-last : (bytes : List ℕ) (size k : ℕ) → length bytes ≡ size → k < size / 24 → begins_stub (take 24 (drop (24 * k) bytes)) ≡ false
-    → k + prefix_len begins_stub (drop k (pieces (length bytes / 24) bytes)) ≡ stubs_in bytes → k ≡ stubs_in bytes
+pub stubs-last : (bytes : List ℕ) (size k : ℕ) → length bytes ≡ size → k < size / stub_size → begins_stub (take stub_size (drop (stub_size * k) bytes)) ≡ false
+    → k + prefix_len begins_stub (drop k (pieces (length bytes / stub_size) bytes)) ≡ stubs_in bytes → k ≡ stubs_in bytes
 stubs-last bytes size k e h is so =
-    let count = ap (λ (m : ℕ). m / 24) e in
-    let all = length-pieces (length bytes / 24) bytes in
-    let here = prefix_len-drop_no begins_stub (pieces (length bytes / 24) bytes) k [] (omega (arith, h, count, all)) (ap begins_stub (get_or-pieces (length bytes / 24) bytes k (omega (arith, h, count))) ∙ is) in
+    let count = ap (λ (m : ℕ). m / stub_size) e in
+    let all = length-pieces (length bytes / stub_size) bytes in
+    let here = prefix_len-drop_no begins_stub (pieces (length bytes / stub_size) bytes) k [] (omega (arith, h, count, all)) (ap begins_stub (get_or-pieces (length bytes / stub_size) bytes k (omega (arith, h, count))) ∙ is) in
     omega (arith, here, so)
 
-pub stubs-all : (bytes : List ℕ) (size k : ℕ) → length bytes ≡ size → k ≤ size / 24 → size / 24 ≤ k
-    → k + prefix_len begins_stub (drop k (pieces (length bytes / 24) bytes)) ≡ stubs_in bytes → size / 24 ≡ stubs_in bytes
+pub stubs-all : (bytes : List ℕ) (size k : ℕ) → length bytes ≡ size → k ≤ size / stub_size → size / stub_size ≤ k
+    → k + prefix_len begins_stub (drop k (pieces (length bytes / stub_size) bytes)) ≡ stubs_in bytes → size / stub_size ≡ stubs_in bytes
 stubs-all bytes size k e low high so =
-    let count = ap (λ (m : ℕ). m / 24) e in
-    let all = length-pieces (length bytes / 24) bytes in
-    let here = prefix_len-drop_all begins_stub (pieces (length bytes / 24) bytes) k (omega (arith, high, count, all)) in
+    let count = ap (λ (m : ℕ). m / stub_size) e in
+    let all = length-pieces (length bytes / stub_size) bytes in
+    let here = prefix_len-drop_all begins_stub (pieces (length bytes / stub_size) bytes) k (omega (arith, high, count, all)) in
     omega (arith, low, high, here, so)
 
 -- ---- the first two bytes
@@ -59,13 +60,13 @@ and_false true = refl
 and_false false = refl
 
 -- the bytes of a piece
-at_piece : (bytes : List ℕ) (place k : ℕ) → k < 24 → get_or (take 24 (drop place bytes)) k 0 ≡ get_or bytes (place + k) 0
-at_piece bytes place k h = get_or-take 24 (drop place bytes) k 0 h ∙ get_or-drop place bytes k 0
+at_piece : (bytes : List ℕ) (place k : ℕ) → k < stub_size → get_or (take stub_size (drop place bytes)) k 0 ≡ get_or bytes (place + k) 0
+at_piece bytes place k h = get_or-take stub_size (drop place bytes) k 0 h ∙ get_or-drop place bytes k 0
 
-begins-piece : (bytes : List ℕ) (place : ℕ) → place + 24 ≤ length bytes → begins_stub (take 24 (drop place bytes)) ≡ begins_stub (get_or bytes place 0 ∷ get_or bytes (place + 1) 0 ∷ [])
+begins-piece : (bytes : List ℕ) (place : ℕ) → place + stub_size ≤ length bytes → begins_stub (take stub_size (drop place bytes)) ≡ begins_stub (get_or bytes place 0 ∷ get_or bytes (place + 1) 0 ∷ [])
 begins-piece bytes place h =
-    let n = length-take-le 24 (drop place bytes) (omega (arith, length-drop place bytes)) in
-    begins-two (take 24 (drop place bytes)) (omega arith)
+    let n = length-take-le stub_size (drop place bytes) (omega (arith, length-drop place bytes)) in
+    begins-two (take stub_size (drop place bytes)) (omega arith)
     ∙ ap₂ (λ (x y : ℕ). begins_stub (x ∷ y ∷ [])) (at_piece bytes place 0 (omega arith) ∙ ap (λ (k : ℕ). get_or bytes k 0) (omega arith)) (at_piece bytes place 1 (omega arith))
 
 -- where both bytes are of the file
@@ -76,8 +77,8 @@ at_file file l place is h =
     get_or_append_left (take l.file_size (drop l.file_at file)) (zeros (l.size - l.file_size)) 0 place (omega arith)
     ∙ get_or-take l.file_size (drop l.file_at file) place 0 h ∙ get_or-drop l.file_at file place 0
 
-pub begins-file : (file : List ℕ) (l : Load) (place : ℕ) → IsLoad (length file) l → place + 24 ≤ l.size → place + 2 ≤ l.file_size
-    → begins_stub (drop (l.file_at + place) file) ≡ begins_stub (take 24 (drop place (loaded_region file l).bytes))
+pub begins-file : (file : List ℕ) (l : Load) (place : ℕ) → IsLoad (length file) l → place + stub_size ≤ l.size → place + 2 ≤ l.file_size
+    → begins_stub (drop (l.file_at + place) file) ≡ begins_stub (take stub_size (drop place (loaded_region file l).bytes))
 begins-file file l place is whole stored =
     let inside = is.inside in
     let size = length-loaded file l is in
@@ -91,8 +92,8 @@ begins-file file l place is whole stored =
     ∙ sym (begins-piece (loaded_region file l).bytes place (omega arith))
 
 -- where the second isn't, it is zero
-pub begins-past : (file : List ℕ) (l : Load) (place : ℕ) → IsLoad (length file) l → place + 24 ≤ l.size → l.file_size < place + 2
-    → begins_stub (take 24 (drop place (loaded_region file l).bytes)) ≡ false
+pub begins-past : (file : List ℕ) (l : Load) (place : ℕ) → IsLoad (length file) l → place + stub_size ≤ l.size → l.file_size < place + 2
+    → begins_stub (take stub_size (drop place (loaded_region file l).bytes)) ≡ false
 begins-past file l place is whole past =
     let size = length-loaded file l is in
     begins-piece (loaded_region file l).bytes place (omega arith)

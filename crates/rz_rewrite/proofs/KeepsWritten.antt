@@ -1,10 +1,11 @@
 -- A rewritten file keeps each run of the original.
-use Rattle.std.proofs.Common.{◌≡◌, ℕ, suc, ◌+◌, ◌-◌, ◌*◌, ◌^◌, ◌<◌, ◌≤◌, Bool, true, false, nat_le, if◌then◌else◌, List, [], ◌∷◌, ◌++◌, length, map, replicate, Some, None, IsTrue, IsSomeAnd, refl, sym, ap, ◌∙◌, subst, subst₂, arith, append_assoc, append-nil}
+use Rattle.std.proofs.Common.{◌≡◌, ℕ, suc, ◌+◌, ◌-◌, ◌*◌, ◌^◌, ◌<◌, ◌≤◌, Bool, true, false, nat_le, if◌then◌else◌, List, [], ◌∷◌, ◌++◌, length, drop, map, replicate, Some, None, IsTrue, IsSomeAnd, refl, sym, ap, ◌∙◌, subst, subst₂, arith, append_assoc, append-nil}
 use Rattle.std.specs.Option.{option_map}
 use Rattle.rz_num.specs.Bytes.{are_bytes}
 use Rattle.rz_isa.specs.declared.rows.Row.{Row}
 use Rattle.rz_isa.specs.declared.rows.Form.{Form}
 use Rattle.rz_isa.specs.declared.rows.Form.TheVariants.{Near}
+use Rattle.rz_isa.specs.declared.decoding.Decoded.{Decoded}
 use Rattle.rz_isa.specs.declared.decoding.Decoded.TheVariants as decodeds
 use Rattle.rz_isa.specs.declared.instruction.Insn.{Insn}
 use Rattle.rz_isa.specs.declared.instruction.Insn.TheVariants as insn
@@ -14,31 +15,34 @@ use Rattle.rz_isa.specs.declared.item_list.Slot.{Slot}
 use Rattle.rz_isa.specs.declared.fragment_list.Fragments.{Fragments}
 use Rattle.rz_isa.specs.Decoded.{decoded}
 use Rattle.rz_isa.specs.Items.{Addresses, list_slots, slots_from, item_count, label_address, resolved}
-use Rattle.rz_isa.specs.Nodes.{Decoder}
+use Rattle.rz_isa.specs.Insn.{kind_of}
+use Rattle.rz_isa.specs.Nodes.{Decoder, is_site, is_site_at}
 use Rattle.rz_isa.specs.Plan.{place as place_of, code_end}
 use Rattle.rz_image.specs.Memory.{Regions, IsInside, IsOutside, SameCell, Alike, NoSelfWritten, cell_at, fetch, wrap}
 use Rattle.rz_image.specs.Laws.Cells.{IsFixed, none_self_written}
 use Rattle.rz_elf.specs.Elf.{Image}
-use Rattle.rz_elf.specs.AddedRange.{Added, all_stubs}
+use Rattle.rz_elf.specs.Format.{int3, stub_size, stub_front, stub_bytes, all_stubs}
+use Rattle.rz_elf.specs.AddedRange.{Added}
 use Rattle.rz_elf.specs.PlainImage.{IsPlainImage}
 use Rattle.rz_elf.specs.WrittenFile.{Parts, added_regions, without_code, new_image}
 use Rattle.rz_sys.specs.declared.input.Input.{Input}
 use Rattle.rz_machine.specs.declared.machine.Machine.{Machine}
 use Rattle.rz_machine.specs.Added.{Layout, node_count, added, layout_of, index_of}
 use Rattle.rz_machine.specs.Keeps.{KeepsRun}
-use Rattle.rz_machine.specs.Kept.{Kept, has_node, sorted}
+use Rattle.rz_machine.specs.Kept.{Kept, has_node, has_edge, sorted}
 use Rattle.rz_machine.specs.Nodes.{code_in}
 use Rattle.rz_machine.specs.Pace.{Paced}
 use Rattle.rz_machine.specs.Placement.{FragmentAt, IsPlacement, IsPlaced}
-use Rattle.rz_machine.specs.Simulates.{InsnAt, ItemsFrom, HasScratch, label_at}
+use Rattle.rz_machine.specs.Simulates.{InsnAt, ItemsFrom, HasScratch, Simulates, label_at}
 use Rattle.rz_machine.specs.Start.{start, heap_region, stack_region}
 use Rattle.rz_machine.specs.Laws.Code.{fetch_same}
-use Rattle.rz_machine.specs.Laws.Placed.{BytesAt, insn_of_bytes}
+use Rattle.rz_machine.specs.Laws.Placed.{BytesAt, bytes_front, insn_of_bytes}
 use Rattle.rz_machine.specs.Laws.PlacedRuns.{placements_keep}
 use Rattle.rz_machine.specs.Laws.Sets.{has_node-sorted, IsAscending-sorted}
 use Rattle.rz_machine.specs.Laws.StartCode.{start_code}
 use Rattle.rz_emit.specs.Emitted.{code_bytes}
-use Rattle.rz_rewrite.specs.Fragments.{items_of, items_for, node_items, trimmed}
+use Rattle.rz_machine.specs.Sequence.{targets_of, items_of, items_for, node_items}
+use Rattle.rz_rewrite.specs.Fragments.{trimmed}
 use Rattle.rz_rewrite.specs.Reach.{is_out_of_reach}
 use Rattle.rz_rewrite.specs.Rewritten.{IsFit, IsRewritten, bound_of, fragments_of, place_by, place_or_zero}
 use Rattle.rz_rewrite.specs.Calls.Table.{TableFacts}
@@ -77,7 +81,7 @@ module _ (rows : List Row) (facts : TableFacts rows) (x : Image) (kept : Kept) (
   place = place_by rows frags a.code forms
 
   abbrev bound : ℕ → ℕ
-  bound = bound_of kept
+  bound = bound_of dec x kept
 
   abbrev IsKept : ℕ → Type 0
   IsKept b = has_node kept.nodes b ≡ true
@@ -106,7 +110,7 @@ module _ (rows : List Row) (facts : TableFacts rows) (x : Image) (kept : Kept) (
       from_base : (b o : ℕ) → b ≤ b + o
       from_base b o = omega arith
 
-      go : (s c e t n stop : ℕ) → s + 4096 ≤ c → c ≤ e → e + 512 ≤ t → t + 24 * n ≤ stop → stop ≤ 0x70000000 → s + 16 < 2 ^ 31
+      go : (s c e t n stop : ℕ) → s + 4096 ≤ c → c ≤ e → e + 512 ≤ t → t + stub_size * n ≤ stop → stop ≤ 0x70000000 → s + 16 < 2 ^ 31
       go s c e t n stop h g i j k = omega arith
 
   code_below : code_end rows frags a.code forms < a.stubs
@@ -115,7 +119,7 @@ module _ (rows : List Row) (facts : TableFacts rows) (x : Image) (kept : Kept) (
   code_low : code_end rows frags a.code forms < 2 ^ 64
   code_low = let k = stubs_room dec x kept fit.room in go (code_end rows frags a.code forms) a.stubs (node_count kept) a.stop code_below k top
     where
-      go : (e t n stop : ℕ) → e < t → t + 24 * n ≤ stop → stop ≤ 0x70000000 → e < 2 ^ 64
+      go : (e t n stop : ℕ) → e < t → t + stub_size * n ≤ stop → stop ≤ 0x70000000 → e < 2 ^ 64
       go e t n stop h i j = omega arith
 
   node_low : (b : ℕ) → IsKept b → b < 2 ^ 31
@@ -170,7 +174,7 @@ module _ (rows : List Row) (facts : TableFacts rows) (x : Image) (kept : Kept) (
         from_base : (b o : ℕ) → b ≤ b + o
         from_base b o = omega arith
 
-        last : (s c e t n stop : ℕ) → s + 4096 ≤ c → c ≤ e → e + 512 ≤ t → t + 24 * n ≤ stop → s + 4096 ≤ stop
+        last : (s c e t n stop : ℕ) → s + 4096 ≤ c → c ≤ e → e + 512 ≤ t → t + stub_size * n ≤ stop → s + 4096 ≤ stop
         last s c e t n stop h g i j = omega arith
 
         page_cell : (b : ℕ) → a.scratch ≤ b → b < a.scratch + 4096 → ((cell_at new.mem b).read ≡ true) × ((cell_at new.mem b).write ≡ true)
@@ -181,7 +185,7 @@ module _ (rows : List Row) (facts : TableFacts rows) (x : Image) (kept : Kept) (
 
     -- the items stand in the code part
     abbrev fill : List ℕ
-    fill = replicate (a.stubs - a.code - length (code_bytes rows frags a.code forms)) 0xcc
+    fill = replicate (a.stubs - a.code - length (code_bytes rows frags a.code forms)) int3
 
     code_there_new : BytesAt new.mem a.code (code_bytes rows frags a.code forms ++ fill)
     code_there_new =
@@ -291,14 +295,20 @@ module _ (rows : List Row) (facts : TableFacts rows) (x : Image) (kept : Kept) (
           let low : n < 2 ^ 31 = wrapped (b + len) s.low in
           let reach : is_out_of_reach (decodeds.Insn y len) ≡ false = ap is_out_of_reach (sym s.spelled) ∙ in_reach dec (code_in x.loads) (sorted kept.nodes) b fit.reach (has_node-sorted kept.nodes b ∙ node) in
           let same : its b ≡ items_of a.scratch kept.edges b n y = ap (items_for a.scratch kept.edges b) s.spelled in
+          let site : is_site (kind_of y) ≡ is_site_at dec (code_in x.loads) b = sym (ap site_in_of s.spelled) in
+          let steps : Bool → ℕ = λ v. 64 + (if v then 4 * length (targets_of kept.edges b) else 0) in
+          let P : Bool → Type 0 = λ v. Simulates dec a.scratch (steps v) (has_edge kept.edges b) b n y (items_of a.scratch kept.edges b n y) in
           record {
             items = items_of a.scratch kept.edges b n y;
             own = own;
-            simulates = items_simulate rows facts x kept a.scratch page node_low fit.plausible.stands.ends b n y low (names_low y reach) (_, b, s.spells);
+            simulates = subst P site (items_simulate rows facts x kept a.scratch page node_low fit.plausible.stands.ends b n y low (names_low y reach) (_, b, s.spells));
             stand = subst (ItemsFrom dec new.mem far own 0 (place b)) same whole;
             inside = inside;
           }
         where
+          site_in_of : Decoded → Bool
+          site_in_of d = is_site_at (λ bs at. d) (code_in x.loads) b
+
           wrapped : (v : ℕ) → v ≤ 0x70000000 → wrap v < 2 ^ 31
           wrapped v h = omega arith
 
@@ -306,13 +316,15 @@ module _ (rows : List Row) (facts : TableFacts rows) (x : Image) (kept : Kept) (
     stub_at : (b : ℕ) → IsKept b → InsnAt dec new.mem (lay.stub b) insn.Ud2 (lay.stub b + 2)
     stub_at b node =
         let p : ℕ = lay.stub b in
-        let pad : List ℕ = replicate (a.stop - a.stubs - length (all_stubs (sorted kept.nodes))) 0xcc in
-        let bytes : BytesAt new.mem a.stubs (all_stubs (sorted kept.nodes) ++ pad) = subst (BytesAt new.mem a.stubs) are.parts_added.stubs stubs_there_new in
-        let there : BytesAt new.mem p (0x0f ∷ 0x0b ∷ []) = stub_found new.mem a.stubs b (sorted kept.nodes) pad (has_node-sorted kept.nodes b ∙ node) bytes in
-        let low : p + 2 < 2 ^ 64 = far a.stubs (index_of (sorted kept.nodes) b) (node_count kept) a.stop (index_low (sorted kept.nodes) b) (stubs_room dec x kept fit.room) top in
-        insn_of_bytes dec new.mem p insn.Ud2 (0x0f ∷ 0x0b ∷ []) there (omega arith) low (executed p) (facts.back insn.Ud2 p Near (0x0f ∷ 0x0b ∷ []) (facts.emits.ud2 p))
+        let nodes : List ℕ = sorted kept.nodes in
+        let pad : List ℕ = replicate (a.stop - a.stubs - length (all_stubs a.stubs nodes)) int3 in
+        let bytes : BytesAt new.mem a.stubs (all_stubs a.stubs nodes ++ pad) = subst (BytesAt new.mem a.stubs) are.parts_added.stubs stubs_there_new in
+        let whole : BytesAt new.mem p (stub_bytes p b) = stub_found new.mem a.stubs b nodes pad (has_node-sorted kept.nodes b ∙ node) bytes in
+        let there : BytesAt new.mem p stub_front = bytes_front new.mem p stub_front (drop (length stub_front) (stub_bytes p b)) whole in
+        let low : p + 2 < 2 ^ 64 = far a.stubs (index_of nodes b) (node_count kept) a.stop (index_low nodes b) (stubs_room dec x kept fit.room) top in
+        insn_of_bytes dec new.mem p insn.Ud2 stub_front there (omega arith) low (executed p) (facts.back insn.Ud2 p Near stub_front (facts.emits.ud2 p))
       where
-        far : (t i n stop : ℕ) → i ≤ n → t + 24 * n ≤ stop → stop ≤ 0x70000000 → t + 24 * i + 2 < 2 ^ 64
+        far : (t i n stop : ℕ) → i ≤ n → t + stub_size * n ≤ stop → stop ≤ 0x70000000 → t + stub_size * i + 2 < 2 ^ 64
         far t i n stop h g j = omega arith
 
     -- so the new memory has a placement of what is kept
@@ -320,7 +332,7 @@ module _ (rows : List Row) (facts : TableFacts rows) (x : Image) (kept : Kept) (
     placement =
         record {
           fragments = λ b node y len fetched. fragment_at b node y len (stands rows facts x fit.plain b y len fetched);
-          stubs = λ b node. (lay.stub b + 2, stub_at b node);
+          stubs = λ b node. (stub_at b node, tt);
           scratch = scratch_page;
         }
 

@@ -5,7 +5,7 @@ use Rattle.std.proofs.lemmas.Bool.{or_left, or_right}
 use Rattle.std.proofs.lemmas.List.{length-map}
 use Rattle.rz_machine.specs.Kept.{Edges, has_node, has_edge, sorted_edges}
 use Rattle.rz_machine.specs.Laws.Sets.{has_edge-sorted}
-use Rattle.rz_rewrite.specs.Fragments.{targets_of}
+use Rattle.rz_machine.specs.Sequence.{targets_of}
 
 -- what holds of each member of a list
 pub each_member : (P : ℕ → Type 0) (nodes : List ℕ) → ((a : ℕ) → has_node nodes a ≡ true → P a) → AllByRecursion P nodes

@@ -12,16 +12,15 @@ use Rattle.rz_isa.specs.Insn.{kind_of}
 use Rattle.rz_isa.specs.Items.{first_number, fragment_number, beside}
 use Rattle.rz_isa.specs.Nodes.{is_site}
 use Rattle.rz_isa.specs.Sizes.{OfLabel}
-use Rattle.rz_elf.specs.AddedRange.{stub_size}
+use Rattle.rz_elf.specs.Format.{stub_size}
 use Rattle.rz_image.specs.Memory.{wrap}
 use Rattle.rz_machine.specs.declared.way.Transfer.TheVariants as transfer
 use Rattle.rz_machine.specs.declared.way.Way.{Way}
 use Rattle.rz_machine.specs.declared.way.Way.TheVariants.{Onward, Jumps, Branches, BranchesOnRcx, Transfers, Calls, Halts}
 use Rattle.rz_machine.specs.Way.{way_of}
 use Rattle.rz_machine.specs.Kept.{Edges, has_node, has_edge}
-use Rattle.rz_frag.specs.Fragment.{to_label, items_by, fragment_items}
-use Rattle.rz_sites.specs.Site.{drop, load_value, check, site_items}
-use Rattle.rz_rewrite.specs.Fragments.{targets_of, items_of, items_for, is_needless, trimmed, first_node, fragment_list, stub_pairs}
+use Rattle.rz_machine.specs.Sequence.{to_label, items_by, fragment_items, drop, load_value, check, site_items, targets_of, items_of, items_for}
+use Rattle.rz_rewrite.specs.Fragments.{is_needless, trimmed, first_node, fragment_list, stub_pairs}
 use Rattle.rz_rewrite.proofs.KeptTargets.{each_member, has_target}
 
 -- ---- a test of labels that those of kept nodes and of the own list pass

@@ -22,18 +22,20 @@ use Rattle.rz_isa.specs.Plan.{place, code_end, IsPlan, IsLeastPlan}
 use Rattle.rz_isa.specs.Sizes.{IsSized}
 use Rattle.rz_image.specs.Memory.{wrap}
 use Rattle.rz_elf.specs.Elf.{Image}
-use Rattle.rz_elf.specs.AddedRange.{Added}
+use Rattle.rz_elf.specs.Format.{stub_size}
+use Rattle.rz_elf.specs.AddedRange.{Added, filled}
 use Rattle.rz_machine.specs.Added.{added, node_count, site_count, site_edge_count}
 use Rattle.rz_machine.specs.Kept.{Kept, Edges, has_node, sorted, sorted_edges, IsAscending}
 use Rattle.rz_machine.specs.Nodes.{code_in}
 use Rattle.rz_machine.specs.Laws.Sets.{has_node-sorted, IsAscending-sorted}
 use Rattle.rz_layout.specs.declared.plan.Layout.{Layout}
-use Rattle.rz_layout.specs.Layout.{nodes_of, all_near, forms_of, AreLow, AreFirst, ArePlaces}
+use Rattle.rz_layout.specs.Layout.{nodes_of, all_near, AreLow, AreFirst, ArePlaces}
 use Rattle.rz_layout.specs.Layout.{IsAscending as IsUp}
 use Rattle.rz_layout.specs.NearPlan.{IsKnown, IsSizedFragment, most_total, CanStand, StandsNear}
 use Rattle.rz_layout.specs.Laws.{LeastIsShortest, SizedStandNear}
-use Rattle.rz_emit.specs.Emitted.{keys_of, code_bytes, emitted, filled}
-use Rattle.rz_rewrite.specs.Fragments.{targets_of, items_for, node_items, trimmed, first_node, fragment_list, stub_pairs}
+use Rattle.rz_emit.specs.Emitted.{keys_of, code_bytes, emitted}
+use Rattle.rz_machine.specs.Sequence.{targets_of, items_for, node_items}
+use Rattle.rz_rewrite.specs.Fragments.{trimmed, first_node, fragment_list, stub_pairs}
 use Rattle.rz_rewrite.specs.Reach.{is_out_of_reach}
 use Rattle.rz_rewrite.specs.Rewritten.{IsFit, fragments_of, place_by, place_or_zero}
 use Rattle.rz_rewrite.specs.Calls.Places.{places_from, beside_or_zero}
@@ -64,11 +66,11 @@ list_nodes items (a ∷ rest) = ap (λ l. a ∷ l) (list_nodes items rest)
 
 stub_keys : (from : ℕ) (nodes : List ℕ) → keys_of (stub_pairs from nodes) ≡ nodes
 stub_keys from [] = refl
-stub_keys from (a ∷ rest) = ap (λ l. a ∷ l) (stub_keys (from + 24) rest)
+stub_keys from (a ∷ rest) = ap (λ l. a ∷ l) (stub_keys (from + stub_size) rest)
 
-stubs_low : (from : ℕ) (nodes : List ℕ) → from + 24 * length nodes < 2 ^ 31 → AllByRecursion (λ p. p.1 < 2 ^ 31) (stub_pairs from nodes)
+stubs_low : (from : ℕ) (nodes : List ℕ) → from + stub_size * length nodes < 2 ^ 31 → AllByRecursion (λ p. p.1 < 2 ^ 31) (stub_pairs from nodes)
 stubs_low from [] h = tt
-stubs_low from (a ∷ rest) h = (omega (arith, h), stubs_low (from + 24) rest (omega (arith, h)))
+stubs_low from (a ∷ rest) h = (omega (arith, h), stubs_low (from + stub_size) rest (omega (arith, h)))
 
 total_is : (site : ℕ → Bool) (edges : Edges) (items : ℕ → List Item) (nodes : List ℕ) → most_total (most_of site edges) (fragment_list items nodes) ≡ most_sum site edges nodes
 total_is site edges items [] = refl
@@ -183,16 +185,16 @@ module _ (rows : List Row) (facts : TableFacts rows) (x : Image) (kept : Kept) (
       go : (c m n t s : ℕ) → m ≡ n → n ≤ t → c + (t + 512) ≤ s → c + m + 512 ≤ s
       go c m n t s e h k = omega (arith, e, h, k)
 
-  pub stubs_end : a.stubs + 24 * length nodes < 2 ^ 31
+  pub stubs_end : a.stubs + stub_size * length nodes < 2 ^ 31
   stubs_end = go a.stubs (length nodes) a.stop (stubs_room dec x kept fit.room) top
     where
-      go : (t n stop : ℕ) → t + 24 * n ≤ stop → stop ≤ 0x70000000 → t + 24 * n < 2 ^ 31
+      go : (t n stop : ℕ) → t + stub_size * n ≤ stop → stop ≤ 0x70000000 → t + stub_size * n < 2 ^ 31
       go t n stop h k = omega (arith, h, k)
 
   page : a.scratch + 16 < 2 ^ 31
   page = go a.scratch a.code (most_total most frags.list) a.stubs (length nodes) (scratch_room dec x kept fit.room) near_room stubs_end
     where
-      go : (s c m t n : ℕ) → s + 4096 ≤ c → c + m + 512 ≤ t → t + 24 * n < 2 ^ 31 → s + 16 < 2 ^ 31
+      go : (s c m t n : ℕ) → s + 4096 ≤ c → c + m + 512 ≤ t → t + stub_size * n < 2 ^ 31 → s + 16 < 2 ^ 31
       go s c m t n h i j = omega (arith, h, i, j)
 
   is_kept : (b : ℕ) → has_node nodes b ≡ true → has_node kept.nodes b ≡ true
@@ -243,7 +245,7 @@ module _ (rows : List Row) (facts : TableFacts rows) (x : Image) (kept : Kept) (
             few = λ e.
                 let is : site b ≡ true = ap site_in_of n.there.spelled ∙ e in
                 let count = one_site site b is (sorted_edges kept.edges) in
-                let room = few_edges a.code (node_count kept) (site_count dec x kept) (site_edge_count dec x kept) a.stubs (24 * length nodes) (code_room dec x kept fit.room) stubs_end in
+                let room = few_edges a.code (node_count kept) (site_count dec x kept) (site_edge_count dec x kept) a.stubs (stub_size * length nodes) (code_room dec x kept fit.room) stubs_end in
                 let same = target_count kept.edges b in
                 below (length (targets_of kept.edges b)) _ (site_edge_count dec x kept) same count room;
           } in
@@ -260,7 +262,7 @@ module _ (rows : List Row) (facts : TableFacts rows) (x : Image) (kept : Kept) (
   can_stand = record {
     fragments = each_fragment (IsSizedFragment rows frags most) (node_items dec (code_in x.loads) a.scratch kept.edges) nodes one;
     no_routine = refl;
-    low = lower a.code (most_total most frags.list) a.stubs (24 * length nodes) near_room stubs_end;
+    low = lower a.code (most_total most frags.list) a.stubs (stub_size * length nodes) near_room stubs_end;
   }
     where
       lower : (c m s t : ℕ) → c + m + 512 ≤ s → s + t < 2 ^ 31 → c + m < 2 ^ 31
@@ -360,7 +362,7 @@ module _ (rows : List Row) (facts : TableFacts rows) (x : Image) (kept : Kept) (
         ascending = list_up;
         near = near.plan;
         ends = below (code_end rows frags a.code (all_near frags)) (a.code + most_total most frags.list) a.stubs near.ends near_room;
-        low = under a.stubs (24 * length nodes) stubs_end;
+        low = under a.stubs (stub_size * length nodes) stubs_end;
         items = near.items;
         low_stubs = all_stubs_low;
         ordered = record { fragments = list_up; stubs = stubs_up; tables = tt };
@@ -379,7 +381,7 @@ module _ (rows : List Row) (facts : TableFacts rows) (x : Image) (kept : Kept) (
       let laid : Layout = h.laid in
       let begins : range.code ≡ a.code = ap (λ (b : Added). b.code) range_is in
       let stubs : range.stubs ≡ a.stubs = ap (λ (b : Added). b.stubs) range_is in
-      let forms = forms_of laid in
+      let forms = laid.forms in
       let plan : IsPlan rows frags range.code forms = subst (λ g. IsPlan rows g range.code forms) same h.plan in
       let least : IsLeastPlan rows frags range.code forms = subst (λ g. IsLeastPlan rows g range.code forms) same h.least in
       let places : ArePlaces rows frags range.code forms laid.places = subst (λ g. ArePlaces rows g range.code forms laid.places) same h.places in
@@ -419,7 +421,7 @@ module _ (rows : List Row) (facts : TableFacts rows) (x : Image) (kept : Kept) (
       ends = subst₂ (λ c s. code_end rows frags c is.forms + 512 ≤ s) begins (ap (λ (b : Added). b.stubs) same) is.ends
 
       end_low : code_end rows frags a.code is.forms < 2 ^ 64
-      end_low = go (code_end rows frags a.code is.forms) a.stubs (24 * length nodes) ends stubs_end
+      end_low = go (code_end rows frags a.code is.forms) a.stubs (stub_size * length nodes) ends stubs_end
         where
           go : (e s n : ℕ) → e + 512 ≤ s → s + n < 2 ^ 31 → e < 2 ^ 64
           go e s n h k = omega (arith, h, k)

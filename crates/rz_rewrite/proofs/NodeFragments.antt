@@ -10,7 +10,7 @@ use Rattle.rz_isa.specs.Insn.{kind_of}
 use Rattle.rz_isa.specs.Items.{list_slots, slots_from, item_count, beside}
 use Rattle.rz_isa.specs.Nodes.{Decoder, Code, is_site, spelled_at}
 use Rattle.rz_image.specs.Memory.{wrap}
-use Rattle.rz_elf.specs.AddedRange.{stub_size}
+use Rattle.rz_elf.specs.Format.{stub_size}
 use Rattle.rz_machine.specs.declared.way.Transfer.TheVariants as transfer
 use Rattle.rz_machine.specs.declared.way.Way.{Way}
 use Rattle.rz_machine.specs.declared.way.Way.TheVariants.{Onward, Jumps, Branches, BranchesOnRcx, Transfers, Calls, Halts}
@@ -18,9 +18,8 @@ use Rattle.rz_machine.specs.Way.{way_of}
 use Rattle.rz_machine.specs.Added.{index_of}
 use Rattle.rz_machine.specs.Kept.{Edges, has_edge}
 use Rattle.rz_machine.specs.Laws.Ways.{kind_in, kind_by_way}
-use Rattle.rz_frag.specs.Fragment.{items_by, fragment_items}
-use Rattle.rz_sites.specs.Site.{load_value, check, site_items}
-use Rattle.rz_rewrite.specs.Fragments.{targets_of, items_for, node_items, is_needless, trimmed, stub_pairs}
+use Rattle.rz_machine.specs.Sequence.{items_by, fragment_items, load_value, check, site_items, targets_of, items_for, node_items}
+use Rattle.rz_rewrite.specs.Fragments.{is_needless, trimmed, stub_pairs}
 
 -- ---- each list of items has one
 

@@ -15,9 +15,8 @@ use Rattle.rz_machine.specs.declared.machine.Machine.{Machine}
 use Rattle.rz_machine.specs.Added.{Layout}
 use Rattle.rz_machine.specs.Kept.{Kept, has_node, has_edge, sorted_edges}
 use Rattle.rz_machine.specs.Simulates.{Follows, Simulates}
-use Rattle.rz_frag.specs.Fragment.{fragment_items}
-use Rattle.rz_sites.specs.Site.{IsSite, site_items}
-use Rattle.rz_rewrite.specs.Fragments.{targets_of, items_of}
+use Rattle.rz_machine.specs.Sequence.{fragment_items, site_items, targets_of, items_of}
+use Rattle.rz_sites.specs.Site.{IsSite}
 use Rattle.rz_rewrite.specs.Reach.{is_high, is_out_of_reach, first_out_of_reach}
 use Rattle.rz_rewrite.specs.Calls.Table.{TableFacts}
 use Rattle.rz_rewrite.proofs.SiteSums.{most_of}
@@ -77,18 +76,18 @@ module _ (rows : List Row) (facts : TableFacts rows) (x : Image) (kept : Kept) (
     }
 
     -- in at most so many steps
-    abbrev pub steps : ℕ
-    steps = 64 + 4 * length (targets_of kept.edges b)
+    abbrev pub steps : Bool → ℕ
+    steps site = 64 + (if site then 4 * length (targets_of kept.edges b) else 0)
 
-    pub items_simulate : Simulates (decoded rows) scratch steps (has_edge kept.edges b) b n y items
+    pub items_simulate : Simulates (decoded rows) scratch (steps (is_site (kind_of y))) (has_edge kept.edges b) b n y items
     items_simulate = go (is_site (kind_of y)) refl
       where
-        go : (v : Bool) → is_site (kind_of y) ≡ v → Simulates (decoded rows) scratch steps (has_edge kept.edges b) b n y (if v then site_items scratch (targets_of kept.edges b) b n y else fragment_items (has_edge kept.edges b) b n y)
+        go : (v : Bool) → is_site (kind_of y) ≡ v → Simulates (decoded rows) scratch (steps v) (has_edge kept.edges b) b n y (if v then site_items scratch (targets_of kept.edges b) b n y else fragment_items (has_edge kept.edges b) b n y)
         go true e =
-            simulates_more (decoded rows) scratch (16 + 4 * length (targets_of kept.edges b)) steps (has_node (targets_of kept.edges b)) (has_edge kept.edges b) b n y _ (omega arith) (has_target kept.edges b)
+            simulates_more (decoded rows) scratch (16 + 4 * length (targets_of kept.edges b)) (steps true) (has_node (targets_of kept.edges b)) (has_edge kept.edges b) b n y _ (omega arith) (has_target kept.edges b)
             (facts.sites_simulate scratch (targets_of kept.edges b) b n y (is_site_of e))
         go false e =
-            simulates_more (decoded rows) scratch 64 steps (has_edge kept.edges b) (has_edge kept.edges b) b n y _ (omega arith) (λ c. refl)
+            simulates_more (decoded rows) scratch 64 (steps false) (has_edge kept.edges b) (has_edge kept.edges b) b n y _ (omega arith) (λ c. refl)
             (facts.fragments_simulate scratch (has_edge kept.edges b) b n y e low)
 
     pub items_sized : (site : ℕ → Bool) → site b ≡ is_site (kind_of y) → IsSized rows items (most_of site (sorted_edges kept.edges) b)

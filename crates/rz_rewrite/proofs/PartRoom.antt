@@ -2,7 +2,8 @@
 use Rattle.std.proofs.Common.{◌≡◌, ℕ, ◌+◌, ◌-◌, ◌*◌, ◌≤◌, length, ap, ◌∙◌, arith}
 use Rattle.rz_isa.specs.Nodes.{Decoder}
 use Rattle.rz_elf.specs.Elf.{Image}
-use Rattle.rz_elf.specs.AddedRange.{Added, lowest, page_floor, all_stubs, tables_size, code_size, stubs_size}
+use Rattle.rz_elf.specs.Format.{stub_size, all_stubs}
+use Rattle.rz_elf.specs.AddedRange.{Added, lowest, page_floor, tables_size, code_size, stubs_size}
 use Rattle.rz_elf.specs.PlainImage.{IsPlainImage}
 use Rattle.rz_elf.specs.WrittenFile.{Parts}
 use Rattle.rz_machine.specs.Added.{added, node_count, site_count, site_edge_count}
@@ -31,11 +32,11 @@ module _ (dec : Decoder) (x : Image) (kept : Kept) (room : HasRoom dec x kept) w
       go : (t c s stop : ℕ) → 4096 + t + c + s ≤ stop → 32 * size + 160 * j + 48 * e + 512 ≤ c → stop - s - c + (32 * size + 160 * j + 48 * e + 512) ≤ stop - s
       go t c s stop h long = omega arith
 
-  -- the stubs part has 24 bytes a node
-  pub stubs_room : a.stubs + 24 * size ≤ a.stop
-  stubs_room = go (tables_size j e) (code_size size j e) (stubs_size size) (page_floor (lowest x.loads)) room (page_up-least (24 * size))
+  -- the stubs part has the bytes of a stub for each node
+  pub stubs_room : a.stubs + stub_size * size ≤ a.stop
+  stubs_room = go (tables_size j e) (code_size size j e) (stubs_size size) (page_floor (lowest x.loads)) room (page_up-least (stub_size * size))
     where
-      go : (t c s stop : ℕ) → 4096 + t + c + s ≤ stop → 24 * size ≤ s → stop - s + 24 * size ≤ stop
+      go : (t c s stop : ℕ) → 4096 + t + c + s ≤ stop → stub_size * size ≤ s → stop - s + stub_size * size ≤ stop
       go t c s stop h long = omega arith
 
   -- the scratch page stands before the code
@@ -56,10 +57,10 @@ module _ (dec : Decoder) (x : Image) (kept : Kept) (room : HasRoom dec x kept) w
     -- the stubs fill their part
     pub length-stubs_part : length parts.stubs ≡ (added dec x kept).stop - (added dec x kept).stubs
     length-stubs_part =
-        let all : length (all_stubs (sorted kept.nodes)) ≡ 24 * node_count kept = length-all_stubs (sorted kept.nodes) in
-        ap length are.stubs ∙ length-filled ((added dec x kept).stop - (added dec x kept).stubs) (all_stubs (sorted kept.nodes)) (few (added dec x kept).stubs (added dec x kept).stop (node_count kept) (length (all_stubs (sorted kept.nodes))) all stubs_room)
+        let all : length (all_stubs (added dec x kept).stubs (sorted kept.nodes)) ≡ stub_size * node_count kept = length-all_stubs (added dec x kept).stubs (sorted kept.nodes) in
+        ap length are.stubs ∙ length-filled ((added dec x kept).stop - (added dec x kept).stubs) (all_stubs (added dec x kept).stubs (sorted kept.nodes)) (few (added dec x kept).stubs (added dec x kept).stop (node_count kept) (length (all_stubs (added dec x kept).stubs (sorted kept.nodes))) all stubs_room)
       where
-        few : (stubs stop n l : ℕ) → l ≡ 24 * n → stubs + 24 * n ≤ stop → l ≤ stop - stubs
+        few : (stubs stop n l : ℕ) → l ≡ stub_size * n → stubs + stub_size * n ≤ stop → l ≤ stop - stubs
         few stubs stop n l e h = omega arith
 
     -- where the parts lie

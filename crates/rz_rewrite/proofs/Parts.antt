@@ -1,14 +1,15 @@
 -- The added parts of a rewritten file: where they lie, and that fragments and stubs fit them.
-use Rattle.std.proofs.Common.{◌≡◌, ℕ, ◌+◌, ◌-◌, ◌*◌, ◌≤◌, Bool, true, false, ◌||◌, if◌then◌else◌, ◌==◌, List, [], ◌∷◌, ◌++◌, length, replicate, refl, subst, arith, append_assoc, length-append}
+use Rattle.std.proofs.Common.{◌≡◌, ℕ, ◌+◌, ◌-◌, ◌*◌, ◌≤◌, Bool, true, false, ◌||◌, if◌then◌else◌, ◌==◌, List, [], ◌∷◌, ◌++◌, length, replicate, refl, sym, ap, ◌∙◌, subst, arith, append_assoc, length-append, eqb-true}
 use Rattle.std.specs.List.{AllByRecursion}
 use Rattle.std.proofs.lemmas.List.{length-replicate}
 use Rattle.rz_num.specs.Page.{page_up}
 use Rattle.rz_image.specs.Memory.{Regions}
 use Rattle.rz_machine.specs.Added.{index_of}
-use Rattle.rz_elf.specs.AddedRange.{Added, lowest, parts_below, scratch_size, stub_bytes, all_stubs, filled}
+use Rattle.rz_elf.specs.Format.{int3, stub_size, stub_bytes, all_stubs}
+use Rattle.rz_elf.specs.AddedRange.{Added, lowest, parts_below, scratch_size, filled}
 use Rattle.rz_machine.specs.Kept.{has_node}
 use Rattle.rz_elf.specs.PlainImage.{IsPlainRegion}
-use Rattle.rz_machine.specs.Laws.Placed.{BytesAt, bytes_back}
+use Rattle.rz_machine.specs.Laws.Placed.{BytesAt, bytes_front, bytes_back}
 
 -- rounding up doesn't lower
 pub page_up-least : (n : ℕ) → n ≤ page_up n
@@ -41,12 +42,12 @@ stubs_size_is stubs_len stop room = omega arith
 
 -- a part filled up is as long as it should be
 pub length-filled : (len : ℕ) (bytes : List ℕ) → length bytes ≤ len → length (filled len bytes) ≡ len
-length-filled len bytes h = let a = length-append bytes (replicate (len - length bytes) 0xcc) in let b = length-replicate {A = ℕ} (len - length bytes) 0xcc in omega (arith, a, b)
+length-filled len bytes h = let a = length-append bytes (replicate (len - length bytes) int3) in let b = length-replicate {A = ℕ} (len - length bytes) int3 in omega (arith, a, b)
 
--- 24 bytes a stub
-pub length-all_stubs : (nodes : List ℕ) → length (all_stubs nodes) ≡ 24 * length nodes
-length-all_stubs [] = refl
-length-all_stubs (a ∷ nodes) = let e = length-append (stub_bytes a) (all_stubs nodes) in let h = length-all_stubs nodes in omega (arith, e, h)
+-- so many bytes a stub
+pub length-all_stubs : (from : ℕ) (nodes : List ℕ) → length (all_stubs from nodes) ≡ stub_size * length nodes
+length-all_stubs from [] = refl
+length-all_stubs from (a ∷ nodes) = let e = length-append (stub_bytes from a) (all_stubs (from + stub_size) nodes) in let h = length-all_stubs (from + stub_size) nodes in omega (arith, e, h)
 
 -- a place in a list is not past its end
 pub index_low : (nodes : List ℕ) (a : ℕ) → index_of nodes a ≤ length nodes
@@ -57,17 +58,28 @@ index_low (c ∷ nodes) a = go (c == a) (index_low nodes a)
     go true h = omega arith
     go false h = omega (arith, h)
 
--- the stub of a node begins with UD2
-pub stub_found : (m : Regions) (base a : ℕ) (nodes fill : List ℕ) → has_node nodes a ≡ true → BytesAt m base (all_stubs nodes ++ fill) → BytesAt m (base + 24 * index_of nodes a) (0x0f ∷ 0x0b ∷ [])
+-- the stub of a node stands at its place
+pub stub_found : (m : Regions) (base a : ℕ) (nodes fill : List ℕ) → has_node nodes a ≡ true → BytesAt m base (all_stubs base nodes ++ fill)
+    → let at = base + stub_size * index_of nodes a in BytesAt m at (stub_bytes at a)
 stub_found m base a [] fill e h = absurd (cc)
 stub_found m base a (c ∷ nodes) fill e h =
-    go (c == a) e (λ f. stub_found m (base + 24) a nodes fill f (bytes_back m base (stub_bytes c) (all_stubs nodes ++ fill) split))
+    go (c == a) refl (λ f. stub_found m (base + stub_size) a nodes fill f (bytes_back m base (stub_bytes base c) rest split))
   where
-    split : BytesAt m base (stub_bytes c ++ (all_stubs nodes ++ fill))
-    split = subst (BytesAt m base) (append_assoc (stub_bytes c) (all_stubs nodes) fill) h
+    rest : List ℕ
+    rest = all_stubs (base + stub_size) nodes ++ fill
 
-    go : (b : Bool) → (b || has_node nodes a) ≡ true → (has_node nodes a ≡ true → BytesAt m (base + 24 + 24 * index_of nodes a) (0x0f ∷ 0x0b ∷ [])) → BytesAt m (base + 24 * (if b then 0 else 1 + index_of nodes a)) (0x0f ∷ 0x0b ∷ [])
-    go true f ih = let n : base ≡ base + 24 * 0 = omega arith in subst (λ p. BytesAt m p (0x0f ∷ 0x0b ∷ [])) n (split.0, (split.1.0, tt))
+    split : BytesAt m base (stub_bytes base c ++ rest)
+    split = subst (BytesAt m base) (append_assoc (stub_bytes base c) (all_stubs (base + stub_size) nodes) fill) h
+
+    StubAt : ℕ → Type 0
+    StubAt p = BytesAt m p (stub_bytes p a)
+
+    go : (b : Bool) → (c == a) ≡ b → (has_node nodes a ≡ true → StubAt (base + stub_size + stub_size * index_of nodes a)) → StubAt (base + stub_size * (if b then 0 else 1 + index_of nodes a))
+    go true f ih =
+        let same : c ≡ a = eqb-true c a f in
+        let n : base ≡ base + stub_size * 0 = omega arith in
+        subst StubAt n (bytes_front m base (stub_bytes base a) rest (subst (λ (k : ℕ). BytesAt m base (stub_bytes base k ++ rest)) same split))
     go false f ih =
-        let n : base + 24 + 24 * index_of nodes a ≡ base + 24 * (1 + index_of nodes a) = omega arith in
-        subst (λ p. BytesAt m p (0x0f ∷ 0x0b ∷ [])) n (ih f)
+        let later : has_node nodes a ≡ true = ap (λ t. t || has_node nodes a) (sym f) ∙ e in
+        let n : base + stub_size + stub_size * index_of nodes a ≡ base + stub_size * (1 + index_of nodes a) = omega arith in
+        subst StubAt n (ih later)

@@ -5,6 +5,7 @@ use Rattle.rz_num.specs.Page.{page_up}
 use Rattle.rz_elf.specs.declared.room.Extent.{Extent}
 use Rattle.rz_elf.specs.declared.room.Room.{Room}
 use Rattle.rz_elf.specs.Elf.{fault_of, image_of}
+use Rattle.rz_elf.specs.Format.{stub_size}
 use Rattle.rz_elf.specs.AddedRange.{Added, scratch_size, tables_size, code_size, stubs_size, lowest, page_floor, parts_below, stubs_part}
 use Rattle.rz_elf.specs.Room.{extent_of, no_room, parts_size, parts_end, IsPages, ArePages, IsInCode}
 use Rattle.rz_elf.specs.WrittenFile.{Parts, new_image, written_file}
@@ -81,7 +82,7 @@ module _ (dec : Decoder) (x : List ℕ) (kept : Kept) (none : no_room_for dec x 
     are_pages = record {
       tables = pages_of (16 * j + 8 * e + 1) parts.tables (omega arith) tables_long;
       code = pages_of (32 * n + 160 * j + 48 * e + 512) parts.code (omega arith) code_long;
-      stubs = pages_of (24 * n) parts.stubs (omega (arith, some)) stubs_long;
+      stubs = pages_of (stub_size * n) parts.stubs (omega (arith, some)) stubs_long;
     }
 
     pub end_at_floor : parts_end parts ≡ (extent_of x).floor

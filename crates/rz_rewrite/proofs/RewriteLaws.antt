@@ -9,7 +9,8 @@ use Rattle.rz_isa.specs.Plan.{code_end, IsPlan, IsLeastPlan}
 use Rattle.rz_image.specs.Memory.{zeros}
 use Rattle.rz_image.specs.Laws.Zeros.{length-zeros}
 use Rattle.rz_elf.specs.Elf.{fault_of, Image, image_of}
-use Rattle.rz_elf.specs.AddedRange.{Added, stub_size, tables_size, code_size, stubs_size, parts_below, all_stubs, filled}
+use Rattle.rz_elf.specs.Format.{stub_size, all_stubs}
+use Rattle.rz_elf.specs.AddedRange.{Added, tables_size, code_size, stubs_size, parts_below, filled}
 use Rattle.rz_elf.specs.PlainImage.{IsPlainImage}
 use Rattle.rz_elf.specs.Room.{extent_of, no_room}
 use Rattle.rz_elf.specs.WrittenFile.{Parts, new_image, written_file}
@@ -21,7 +22,7 @@ use Rattle.rz_machine.specs.Pace.{Paced}
 use Rattle.rz_machine.specs.Placement.{IsPlaced}
 use Rattle.rz_machine.specs.Start.{start, HasHeapRoom}
 use Rattle.rz_machine.specs.Laws.Sets.{IsAscending-sorted}
-use Rattle.rz_emit.specs.Emitted.{code_bytes, filled as filled_code}
+use Rattle.rz_emit.specs.Emitted.{code_bytes}
 use Rattle.rz_rewrite.specs.declared.added.AddedRange.{AddedRange}
 use Rattle.rz_rewrite.specs.declared.code.NewCode.{NewCode}
 use Rattle.rz_rewrite.specs.declared.rewrite.New.{New}
@@ -72,7 +73,7 @@ pub record AreParts (range : AddedRange) (nodes : List ℕ) (code : NewCode) (pa
   pub base : parts.base ≡ range.scratch
   pub tables : parts.tables ≡ zeros (range.code - range.tables)
   pub code_is : parts.code ≡ code.bytes
-  pub stubs : parts.stubs ≡ filled (range.stop - range.stubs) (all_stubs nodes)
+  pub stubs : parts.stubs ≡ filled (range.stop - range.stubs) (all_stubs range.stubs nodes)
 
 module _ (rows : List Row) (facts : TableFacts rows) (x : List ℕ) (kept : Kept) (range : AddedRange) (q : IsPlanned (decoded rows) x kept range) (code : NewCode) (is : IsNewCode rows (image_of x) kept range code)
     (parts : Parts) (are : AreParts range (sorted kept.nodes) code parts) where
@@ -95,14 +96,14 @@ module _ (rows : List Row) (facts : TableFacts rows) (x : List ℕ) (kept : Kept
   pub rewritten : IsRewritten rows (image_of x) kept parts code.entry is.forms
   rewritten =
       let inside = entry_inside rows facts (image_of x) kept fit range q.range_is code is in
-      let bytes : parts.code ≡ filled_code (a.stubs - a.code) (code_bytes rows (fragments_of dec (image_of x) kept) a.code is.forms) =
-      are.code_is ∙ is.bytes ∙ ap₂ (λ c s. filled_code (s - c) (code_bytes rows (fragments_of dec (image_of x) kept) c is.forms)) code_at stubs_at in
+      let bytes : parts.code ≡ filled (a.stubs - a.code) (code_bytes rows (fragments_of dec (image_of x) kept) a.code is.forms) =
+      are.code_is ∙ is.bytes ∙ ap₂ (λ c s. filled (s - c) (code_bytes rows (fragments_of dec (image_of x) kept) c is.forms)) code_at stubs_at in
       record {
         parts_added = record {
           base = are.base ∙ ap (λ (b : Added). b.scratch) q.range_is;
           tables = ap length are.tables ∙ length-zeros (range.code - range.tables) ∙ ap (λ (b : Added). b.code - b.tables) q.range_is;
           code = ap length bytes ∙ length-filled (a.stubs - a.code) (code_bytes rows (fragments_of dec (image_of x) kept) a.code is.forms) inside.2;
-          stubs = are.stubs ∙ ap (λ (b : Added). filled (b.stop - b.stubs) (all_stubs (sorted kept.nodes))) q.range_is;
+          stubs = are.stubs ∙ ap (λ (b : Added). filled (b.stop - b.stubs) (all_stubs b.stubs (sorted kept.nodes))) q.range_is;
           entry_from = inside.0;
           entry_below = inside.1;
         };
@@ -119,9 +120,9 @@ module _ (rows : List Row) (facts : TableFacts rows) (x : List ℕ) (kept : Kept
     new_is new bytes base places stubs =
         let i : Image = image_of x in
         let same : image_of new.bytes ≡ new_image i parts code.entry = ap image_of bytes ∙ image in
-        let P : Image → Type 0 = λ j. IsPlaced dec i j kept (layout_of dec i kept) (place_by rows (fragments_of dec i kept) a.code is.forms) (bound_of kept) in
+        let P : Image → Type 0 = λ j. IsPlaced dec i j kept (layout_of dec i kept) (place_by rows (fragments_of dec i kept) a.code is.forms) (bound_of dec i kept) in
         let K : Image → Type 0 = λ j. (input : _) → KeepsRun dec kept.edges (layout_of dec i kept) (start i input) (start j input) in
-        let Q : Image → Type 0 = λ j. (input : _) → Paced dec kept.edges (layout_of dec i kept) (bound_of kept) (start i input) (start j input) in
+        let Q : Image → Type 0 = λ j. (input : _) → Paced dec kept.edges (layout_of dec i kept) (bound_of dec i kept) (start i input) (start j input) in
         let both = both_written rows facts i kept parts code.entry is.forms fit rewritten new_plain in
         record {
           placed = (

@@ -1,41 +1,16 @@
--- The fragments of what is kept: the items of each kept node, and the stubs.
-use Rattle.std.specs.Prelude.{ℕ, ◌+◌, Bool, false, ◌==◌, if◌then◌else◌, List, [], ◌∷◌, map, filter, Option, Some, None}
-use Rattle.rz_isa.specs.declared.decoding.Decoded.{Decoded}
-use Rattle.rz_isa.specs.declared.decoding.Decoded.TheVariants as decoded
-use Rattle.rz_isa.specs.declared.instruction.Insn.{Insn}
-use Rattle.rz_isa.specs.declared.instruction.Insn.TheVariants as insn
+-- The fragments of what is kept, without the jumps that lead to what follows, and the stubs.
+use Rattle.std.specs.Prelude.{ℕ, ◌+◌, Bool, false, ◌==◌, if◌then◌else◌, List, [], ◌∷◌, Option, Some, None}
 use Rattle.rz_isa.specs.declared.item_list.Label.{Label}
 use Rattle.rz_isa.specs.declared.item_list.Label.TheVariants as label
 use Rattle.rz_isa.specs.declared.item_list.Item.{Item}
 use Rattle.rz_isa.specs.declared.item_list.Item.TheVariants as item
 use Rattle.rz_isa.specs.declared.fragment_list.Fragment.{Fragment}
 use Rattle.rz_isa.specs.declared.fragment_list.Fragments.{Fragments}
-use Rattle.rz_isa.specs.Insn.{kind_of}
-use Rattle.rz_isa.specs.Nodes.{Decoder, Code, is_site, spelled_at}
-use Rattle.rz_image.specs.Memory.{wrap}
-use Rattle.rz_elf.specs.AddedRange.{Added, stub_size}
-use Rattle.rz_machine.specs.Kept.{Edges, has_edge, sorted_edges}
-use Rattle.rz_frag.specs.Fragment.{fragment_items}
-use Rattle.rz_sites.specs.Site.{site_items}
-
--- ---- the items of a node
-
--- where the kept edges from an address lead, ascending
-abbrev pub targets_of : Edges → ℕ → List ℕ
-targets_of edges a = map (λ e. e.1) (filter (λ e. e.0 == a) (sorted_edges edges))
-
--- of the instruction x at a, before n: a site checks its targets, with the scratch page of this address
-abbrev pub items_of : (scratch : ℕ) → Edges → ℕ → ℕ → Insn → List Item
-items_of scratch edges a n x =
-    if is_site (kind_of x) then site_items scratch (targets_of edges a) a n x else fragment_items (has_edge edges a) a n x
-
--- of what the bytes at a spell; where they spell nothing the run would end
-abbrev pub items_for : (scratch : ℕ) → Edges → ℕ → Decoded → List Item
-items_for scratch edges a (decoded.Insn x len) = items_of scratch edges a (wrap (a + len)) x
-items_for scratch edges a _ = item.Whole insn.Ud2 ∷ []
-
-abbrev pub node_items : Decoder → Code → (scratch : ℕ) → Edges → ℕ → List Item
-node_items dec code scratch edges a = items_for scratch edges a (spelled_at dec code a)
+use Rattle.rz_isa.specs.Nodes.{Decoder, Code}
+use Rattle.rz_elf.specs.Format.{stub_size}
+use Rattle.rz_elf.specs.AddedRange.{Added}
+use Rattle.rz_machine.specs.Kept.{Edges}
+use Rattle.rz_machine.specs.Sequence.{node_items}
 
 -- ---- the last jump of a fragment
 

@@ -1,15 +1,15 @@
 -- What the added parts hold where a file is rewritten: the fragments and the stubs of the kept nodes.
-use Rattle.std.specs.Prelude.{◌≡◌, ℕ, ◌+◌, ◌-◌, ◌*◌, ◌≤◌, List, length, map, Option, Some, None}
+use Rattle.std.specs.Prelude.{◌≡◌, ℕ, ◌+◌, ◌-◌, ◌*◌, ◌≤◌, if◌then◌else◌, List, length, map, Option, Some, None}
 use Rattle.std.specs.Option.{option_map}
 use Rattle.rz_isa.specs.declared.rows.Row.{Row}
 use Rattle.rz_isa.specs.declared.rows.Form.{Form}
 use Rattle.rz_isa.specs.declared.fragment_list.Fragments.{Fragments}
 use Rattle.rz_isa.specs.Decoded.{decoded}
 use Rattle.rz_isa.specs.Items.{fragment_number}
-use Rattle.rz_isa.specs.Nodes.{Decoder}
+use Rattle.rz_isa.specs.Nodes.{Decoder, is_site_at}
 use Rattle.rz_isa.specs.Plan.{place, code_end, IsPlan, IsLeastPlan}
 use Rattle.rz_elf.specs.Elf.{Image, image_of}
-use Rattle.rz_elf.specs.AddedRange.{scratch_size, tables_size, code_size, stubs_size, lowest, page_floor}
+use Rattle.rz_elf.specs.AddedRange.{scratch_size, tables_size, code_size, stubs_size, lowest, page_floor, filled}
 use Rattle.rz_elf.specs.PlainImage.{IsPlainImage}
 use Rattle.rz_elf.specs.WrittenFile.{Parts, written_file}
 use Rattle.rz_machine.specs.Kept.{Kept, sorted}
@@ -19,8 +19,9 @@ use Rattle.rz_machine.specs.Pace.{Paced}
 use Rattle.rz_machine.specs.Placement.{IsPlaced}
 use Rattle.rz_machine.specs.Start.{start, HasHeapRoom}
 use Rattle.rz_machine.specs.WrittenFile.{IsAdded}
-use Rattle.rz_emit.specs.Emitted.{code_bytes, filled}
-use Rattle.rz_rewrite.specs.Fragments.{fragments, targets_of}
+use Rattle.rz_emit.specs.Emitted.{code_bytes}
+use Rattle.rz_machine.specs.Sequence.{targets_of}
+use Rattle.rz_rewrite.specs.Fragments.{fragments}
 use Rattle.rz_rewrite.specs.Reach.{first_out_of_reach}
 use Rattle.rz_sys.specs.declared.input.Input.{Input}
 
@@ -88,18 +89,18 @@ pub record IsNewFile (rows : List Row) (x w : List ℕ) (kept : Kept) : Type 0 w
 abbrev pub stubs_of : Decoder → List ℕ → Kept → List (ℕ × ℕ)
 stubs_of dec x kept = map (λ a. (a, (layout_of dec (image_of x) kept).stub a)) (sorted kept.nodes)
 
--- the most new steps for a step of the original at an address: 64, and four for each target of its site
-abbrev pub bound_of : Kept → ℕ → ℕ
-bound_of kept a = 64 + 4 * length (targets_of kept.edges a)
+-- the most new steps for a step of the original at an address: 64, and four for each target where a site stands
+abbrev pub bound_of : Decoder → Image → Kept → ℕ → ℕ
+bound_of dec x kept a = 64 + (if is_site_at dec (code_in x.loads) a then 4 * length (targets_of kept.edges a) else 0)
 
 -- what is loaded of the new file w has the fragment of each kept node where these pairs say, and the stubs in theirs
 abbrev pub HasPlacement : Decoder → List ℕ → List ℕ → Kept → List (ℕ × ℕ) → Type 0
 HasPlacement dec x w kept places =
     (place : ℕ → ℕ) × (places ≡ map (λ a. (a, place a)) (sorted kept.nodes))
-    × IsPlaced dec (image_of x) (image_of w) kept (layout_of dec (image_of x) kept) place (bound_of kept)
+    × IsPlaced dec (image_of x) (image_of w) kept (layout_of dec (image_of x) kept) place (bound_of dec (image_of x) kept)
 
 -- on each input the new file's run follows the original's, with one to so many steps for each of its steps
 abbrev pub IsPaced : Decoder → List ℕ → List ℕ → Kept → Type 0
 IsPaced dec x w kept =
-    (input : Input) → Paced dec kept.edges (layout_of dec (image_of x) kept) (bound_of kept)
+    (input : Input) → Paced dec kept.edges (layout_of dec (image_of x) kept) (bound_of dec (image_of x) kept)
     (start (image_of x) input) (start (image_of w) input)

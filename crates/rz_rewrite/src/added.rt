@@ -7,13 +7,11 @@ ghost use Rattle.rz_elf.specs.Room.{no_room};
 ghost use Rattle.rz_rewrite.specs.Refusals.{size_for};
 ghost use Rattle.rz_rewrite.specs.Calls.Plan.{range_of};
 
+use rz_elf::format::STUB_SIZE;
 use rz_elf::room::{Extent, Room};
 
 // The bytes of a page, and of the scratch part.
 const PAGE: u128 = 4096;
-
-// The size of a stub, in bytes.
-const STUB_SIZE: u128 = 24;
 
 /// Where the parts of a new file begin, in ascending order, and where the last one ends.
 #[derive(Clone, Copy)]
@@ -36,7 +34,7 @@ pub fn added_range(extent: &Extent, nodes: u64, sites: u64, edges: u64) -> Resul
     let (nodes, sites, edges) = (u128::from(nodes), u128::from(sites), u128::from(edges));
     let tables = pages(16 * sites + 8 * edges + 1);
     let code = pages(32 * nodes + 160 * sites + 48 * edges + 512);
-    let stubs = pages(STUB_SIZE * nodes);
+    let stubs = pages(u128::from(STUB_SIZE) * nodes);
     match no_room_for(extent, tables + code + stubs) {
         Some(room) => Err(room),
         None => Ok(below(u128::from(extent.floor), tables, code, stubs)),

@@ -5,7 +5,8 @@ ghost use Rattle.rz_elf.specs.Elf.{image_of};
 ghost use Rattle.rz_isa.specs.Decoded.{decoded};
 ghost use Rattle.rz_machine.specs.Nodes.{code_in};
 ghost use Rattle.rz_machine.specs.Kept.{sorted_edges};
-ghost use Rattle.rz_rewrite.specs.Fragments.{items_for, items_of, is_needless as is_needless_of, first_node, fragment_list as fragment_list_of, node_items, trimmed as trimmed_of};
+ghost use Rattle.rz_machine.specs.Sequence.{items_for, items_of, node_items};
+ghost use Rattle.rz_rewrite.specs.Fragments.{is_needless as is_needless_of, first_node, fragment_list as fragment_list_of, trimmed as trimmed_of};
 ghost use Rattle.rz_rewrite.specs.Calls.Plan.{AreMovable, CanMoveAt, IsMovable};
 
 use crate::nodes::{decoded_at, is_site};

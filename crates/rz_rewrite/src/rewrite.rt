@@ -9,7 +9,8 @@ ghost use Rattle.rz_machine.specs.Keeps.{Keeps};
 ghost use Rattle.rz_machine.specs.Kept.{sorted, sorted_edges};
 ghost use Rattle.rz_machine.specs.Traced.{kept_in};
 ghost use Rattle.rz_machine.specs.WrittenFile.{Inert};
-ghost use Rattle.rz_elf.specs.AddedRange.{all_stubs, filled as filled_with};
+ghost use Rattle.rz_elf.specs.AddedRange.{filled as filled_with};
+ghost use Rattle.rz_elf.specs.Format.{all_stubs, stub_size};
 ghost use Rattle.rz_rewrite.specs.Refusals.{IsRefusal, no_room_for, rip_reach_of};
 ghost use Rattle.rz_rewrite.specs.Rewritten.{CanRewrite, HasPlacement, IsNewFile, IsPaced, stubs_of};
 ghost use Rattle.rz_rewrite.specs.Calls.Plan.{IsNew, IsPlanned};
@@ -22,15 +23,13 @@ use crate::refusal::Refusal;
 use crate::stubs::emit_stubs;
 use rz_aset::Record;
 use rz_elf::elf::Elf;
+use rz_elf::format::INT3;
 use rz_elfw::extent::extent_of;
 use rz_elfw::parts::Parts;
 use rz_elfw::write::write_elf;
 use rz_isa::InsnTable;
 use rz_num::{Bytes, OutOfMemory, Pairs, are_bytes};
 use std::alloc::Global;
-
-/// INT3, which fills code and stubs.
-const INT3: u8 = 0xcc;
 
 /// A new file.
 #[derive(Drop)]
@@ -115,12 +114,12 @@ fn parts_with(
     range: &AddedRange,
 ) -> Result<Parts, OutOfMemory>
     requires tables { range.now.tables ≤ range.now.code }
-    requires stubs { range.now.stubs + 24 * length nodes.now ≤ range.now.stop }
+    requires stubs { range.now.stubs + stub_size * length nodes.now ≤ range.now.stop }
     ensures base { IfOk result (λ parts. parts.base ≡ range.now.scratch) }
     ensures tables { IfOk result (λ parts. parts.tables ≡ zeros (range.now.code - range.now.tables)) }
     ensures code { IfOk result (λ parts. parts.code ≡ code) }
     ensures stubs { IfOk result (λ parts.
-        parts.stubs ≡ filled_with (range.now.stop - range.now.stubs) (all_stubs nodes.now)) }
+        parts.stubs ≡ filled_with (range.now.stop - range.now.stubs) (all_stubs range.now.stubs nodes.now)) }
 {
     let tables = filled(Bytes::new(alloc), range.code - range.tables, 0)?;
     let stubs = emit_stubs(alloc, nodes)?;

@@ -1,18 +1,16 @@
 //! Stubs: what a transfer comes to that isn't kept.
 
-ghost use Rattle.std.specs.Prelude.{◌≡◌, ◌++◌, ◌+◌, ◌*◌, ◌^◌, ◌<◌, length, IfOk, OnOk};
-ghost use Rattle.rz_elf.specs.AddedRange.{all_stubs, stub_bytes, stub_size};
+ghost use Rattle.std.specs.Prelude.{◌≡◌, ℕ, ◌++◌, ◌+◌, ◌*◌, ◌^◌, ◌<◌, length, IfOk, OnOk};
+ghost use Rattle.rz_elf.specs.Format.{all_stubs, stub_bytes, stub_size};
 ghost use Rattle.rz_rewrite.specs.Fragments.{stub_pairs as stub_pairs_of};
 
+use rz_elf::format::{INT3, STUB_FRONT, STUB_SIZE};
 use rz_num::{Bytes, OutOfMemory, Pairs};
 use std::alloc::Global;
 
-/// The size of a stub, in bytes.
-pub const STUB_SIZE: u64 = 24;
-
-/// The stubs of ascending addresses, one after the other. It refuses for want of memory alone.
+/// The stubs of ascending addresses, one after the other, wherever the first stands. It refuses for want of memory alone.
 pub fn emit_stubs(alloc: Global, nodes: &[u64]) -> Result<Bytes, OutOfMemory>
-    ensures { IfOk result (λ bytes. bytes ≡ all_stubs nodes.now) }
+    ensures { IfOk result (λ bytes. (from : ℕ) → bytes ≡ all_stubs from nodes.now) }
 {
     let mut out = Bytes::new(alloc);
     for a in nodes {
@@ -21,13 +19,14 @@ pub fn emit_stubs(alloc: Global, nodes: &[u64]) -> Result<Bytes, OutOfMemory>
     Ok(out)
 }
 
-// Appends the stub of an address: UD2 and six zero bytes, the address, and eight bytes of INT3.
+// Appends the stub of an address, wherever it stands.
 fn emit_stub(a: u64, out: &mut Bytes) -> Result<(), OutOfMemory>
-    ensures { OnOk result (out.new ≡ out.old ++ stub_bytes a) }
+    ensures { OnOk result ((at : ℕ) → out.new ≡ out.old ++ stub_bytes at a) }
 {
-    out.push_all(&[0x0f, 0x0b, 0, 0, 0, 0, 0, 0])?;
+    out.push_all(&STUB_FRONT)?;
+    out.push_all(&[0; 6])?;
     out.push_all(&a.to_le_bytes())?;
-    out.push_all(&[0xcc; 8])?;
+    out.push_all(&[INT3; 8])?;
     Ok(())
 }
 

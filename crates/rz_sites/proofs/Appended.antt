@@ -4,7 +4,7 @@ use Rattle.std.specs.Prelude.{ℤ, pos, ◌-ℤ◌}
 use Rattle.rz_isa.specs.declared.item_list.Label.TheVariants as label
 use Rattle.rz_isa.specs.declared.item_list.Item.{Item}
 use Rattle.rz_isa.specs.declared.item_list.Item.TheVariants as item
-use Rattle.rz_sites.specs.Site.{add_to, load_at, jump, piece}
+use Rattle.rz_machine.specs.Sequence.{add_to, load_at, jump, piece}
 
 five_appended : (xs x1 x2 x3 x4 x5 : List Item) (a b c d e : Item) → x1 ≡ xs ++ a ∷ [] → x2 ≡ x1 ++ b ∷ [] → x3 ≡ x2 ++ c ∷ [] → x4 ≡ x3 ++ d ∷ [] → x5 ≡ x4 ++ e ∷ []
     → x5 ≡ xs ++ a ∷ b ∷ c ∷ d ∷ e ∷ []

@@ -23,7 +23,7 @@ use Rattle.rz_machine.specs.Kept.{has_node}
 use Rattle.rz_machine.specs.State.{step}
 use Rattle.rz_machine.specs.Simulates.{InsnAt, ItemAt, ItemsFrom, HasCode, label_at, leads}
 use Rattle.rz_machine.specs.Laws.Comes.{step_is, jump_is, count_is, Comes, stay, one_more, weaker, jump_comes}
-use Rattle.rz_sites.specs.Site.{add_to, load_at, jump, check}
+use Rattle.rz_machine.specs.Sequence.{add_to, load_at, jump, check}
 use Rattle.rz_sites.proofs.Stored.{word}
 use Rattle.rz_sites.proofs.Steps.{now, load_insn, load_at_is, subtract_is}
 

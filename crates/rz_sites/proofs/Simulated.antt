@@ -37,7 +37,8 @@ use Rattle.rz_machine.specs.State.{step, after}
 use Rattle.rz_machine.specs.Touches.{StepClear}
 use Rattle.rz_machine.specs.Simulates.{InsnAt, ItemsFrom, HasScratch, Stand, Follows, Simulates, label_at, leads}
 use Rattle.rz_machine.specs.Laws.Comes.{step_is, Comes, one_more, weaker}
-use Rattle.rz_sites.specs.Site.{save_at, load, load_at, add_to, check, site_items, SitesSimulate}
+use Rattle.rz_machine.specs.Sequence.{save_at, load, load_at, add_to, check, site_items}
+use Rattle.rz_sites.specs.Site.{SitesSimulate}
 use Rattle.rz_sites.proofs.Checked.{Saved, Stands, stands, before_check, checked}
 use Rattle.rz_sites.proofs.Moved.{goes_on, both_end, none_after, after_more, insn_clear, Ready, ready_to, steps_by, open_word, saves}
 use Rattle.rz_sites.proofs.Steps.{now, fault_at, save_insn, load_insn, add_insn, loaded, load_is, load_at_is, popped_to, pop_is, drop_is, pushed, push_is}

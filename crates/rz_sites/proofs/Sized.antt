@@ -33,7 +33,8 @@ use Rattle.rz_isa.specs.Targets.{NamesLow, IndirectOperands}
 use Rattle.rz_isa.specs.Within.{SpelledWithin}
 use Rattle.rz_isa.specs.Laws.NearItems.{near_low, low_fits, whole_item, jump_item, count_item}
 use Rattle.rz_encode.specs.Length.{chosen_len, ChosenLengths}
-use Rattle.rz_sites.specs.Site.{save_at, load, load_at, add_to, jump, drop, load_value, piece, check, SitesAreSized}
+use Rattle.rz_machine.specs.Sequence.{save_at, load, load_at, add_to, jump, drop, load_value, piece, check}
+use Rattle.rz_sites.specs.Site.{SitesAreSized}
 
 -- ---- displacements
 

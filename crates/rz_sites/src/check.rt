@@ -2,7 +2,7 @@
 
 ghost use Rattle.std.specs.Prelude.{◌≡◌, pos, ◌+◌, ◌*◌, ◌^◌, ◌<◌, ◌-ℤ◌, length, ◌++◌, OnOk};
 ghost use Rattle.std.specs.List.{AllByRecursion};
-ghost use Rattle.rz_sites.specs.Site.{piece, check as check_of};
+ghost use Rattle.rz_machine.specs.Sequence.{piece, check as check_of};
 
 use crate::moves::{RCX, add_to, jump, load_at};
 use rz_isa::{Item, Items, Label};

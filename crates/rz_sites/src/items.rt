@@ -2,7 +2,8 @@
 
 ghost use Rattle.std.specs.Prelude.{◌≡◌, ◌+◌, ◌^◌, ◌<◌, length, IfOk};
 ghost use Rattle.rz_isa.specs.Decoded.{decoded};
-ghost use Rattle.rz_sites.specs.Site.{IsSite, SimulatesSite, IsSizedSite, site_items, load_value as load_value_of};
+ghost use Rattle.rz_machine.specs.Sequence.{site_items, load_value as load_value_of};
+ghost use Rattle.rz_sites.specs.Site.{IsSite, SimulatesSite, IsSizedSite};
 
 use crate::check::push_check;
 use crate::laws::{sites_are_sized, sites_simulate};

@@ -4,7 +4,7 @@ ghost use Rattle.std.specs.Prelude.{◌≡◌, ◌^◌, ◌<◌};
 ghost use Rattle.rz_isa.specs.declared.instruction.Place.TheVariants as places;
 ghost use Rattle.rz_isa.specs.Emitted.{register};
 ghost use Rattle.rz_isa.specs.Items.{absolute as absolute_at};
-ghost use Rattle.rz_sites.specs.Site.{save_at as saved, load as loaded, load_at as loaded_at, add_to as added_to, jump as jump_of};
+ghost use Rattle.rz_machine.specs.Sequence.{save_at as saved, load as loaded, load_at as loaded_at, add_to as added_to, jump as jump_of};
 
 use rz_isa::{Insn, Item, Label, Mem, Operand, Place, Reg};
 use rz_num::Width;

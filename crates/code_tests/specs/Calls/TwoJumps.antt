@@ -1,6 +1,7 @@
 -- Two worked fragments, and their layout from 0x10000 on.
 use Rattle.std.specs.Prelude.{[], ◌∷◌, Some, None}
 use Rattle.rz_flags.specs.declared.Cond.TheVariants as cond
+use Rattle.rz_isa.specs.declared.rows.Form.TheVariants.{Near, Short}
 use Rattle.rz_isa.specs.declared.item_list.Label.TheVariants as label
 use Rattle.rz_isa.specs.declared.item_list.Item.TheVariants as item
 use Rattle.rz_isa.specs.declared.fragment_list.Fragments.{Fragments}
@@ -24,5 +25,5 @@ two_short = record {
   base = 0x10000;
   stubs = 0x10010;
   places = 0x10000 ∷ 0x10002 ∷ 0x10004 ∷ [];
-  forms = 1 ∷ 1 ∷ 0 ∷ [];
+  forms = Short ∷ Short ∷ Near ∷ [];
 }

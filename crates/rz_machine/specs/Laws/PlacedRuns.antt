@@ -1,7 +1,8 @@
 -- Whatever the placement, each run of the original is kept.
-use Rattle.std.proofs.Common.{◌≡◌, ℕ, ◌+◌, ◌^◌, ◌<◌, ◌≤◌, true, replicate, None, refl, sym, ap, ◌∙◌, subst, arith}
+use Rattle.std.proofs.Common.{◌≡◌, ℕ, ◌+◌, ◌^◌, ◌<◌, ◌≤◌, true, replicate, Some, None, refl, sym, ap, ◌∙◌, subst, arith}
 use Rattle.std.specs.List.{AllByRecursion}
 use Rattle.rz_isa.specs.declared.instruction.Insn.TheVariants as insn
+use Rattle.rz_machine.specs.declared.machine.End.TheVariants as end
 use Rattle.rz_machine.specs.declared.machine.Machine.{Machine}
 use Rattle.rz_sys.specs.declared.input.Input.{Input}
 use Rattle.rz_sys.specs.World.{SameWorld}
@@ -63,10 +64,12 @@ module _ (dec : Decoder) (x w : Image) (kept : Kept) (lay : Layout) (place bound
       fragment.simulates lay place fragment.own x.loads wm here fragment.stand fragment.inside (are.placement input).scratch s t refl st clear
 
   -- a kept node's stub ends the run
-  stub_stops : (t : Machine) (b : ℕ) → IsKept b → t.end ≡ None → HasCode wm t.mem → RangeStands lay.added wm t.mem → t.cpu.rip ≡ lay.stub b → StopsAtStub dec t
-  stub_stops t b node runs code range there =
-      let stop = (are.placement input).stubs b node in
-      ap (λ u. u.end) (step_is dec wm (lay.stub b) insn.Ud2 stop.0 stop.1 t runs there code ∙ halt_is insn.Ud2 halt.Ud2 stop.0 t refl)
+  stub_stops : (s t : Machine) → IsKept s.cpu.rip → t.end ≡ None → HasCode wm t.mem → RangeStands lay.added wm t.mem → t.cpu.rip ≡ lay.stub s.cpu.rip → StopsAtStub dec lay s t
+  stub_stops s t node runs code range there =
+      let at : ℕ = lay.stub s.cpu.rip in
+      let ud2 : InsnAt dec wm at insn.Ud2 (at + 2) = ((are.placement input).stubs s.cpu.rip node).0 in
+      ap (λ u. u.end) (step_is dec wm at insn.Ud2 (at + 2) ud2 t runs there code ∙ halt_is insn.Ud2 halt.Ud2 (at + 2) t refl)
+      ∙ ap (λ (a : ℕ). Some (end.Illegal a)) there
 
   -- both runs stand at the start
   standing : Stand lay place x.loads wm old new

@@ -58,7 +58,7 @@ moment_most dec r bound b low x w (suc n) m h =
 module _ (dec : Decoder) (edges : Edges) (lay : Layout) (place bound : ℕ → ℕ) (IsNode : ℕ → Type 0) (xm wm : Regions)
     (ends_are_nodes : (a b : ℕ) → has_edge edges a b ≡ true → IsNode b)
     (each : (s t : Machine) → IsNode s.cpu.rip → Stand lay place xm wm s t → StepClear lay.added dec s → Follows dec lay (leads (has_edge edges s.cpu.rip) place lay.stub s.cpu.rip) (bound s.cpu.rip) (step dec s) t)
-    (stub_stops : (t : Machine) (a : ℕ) → IsNode a → t.end ≡ None → HasCode wm t.mem → RangeStands lay.added wm t.mem → t.cpu.rip ≡ lay.stub a → StopsAtStub dec t)
+    (stub_stops : (s t : Machine) → IsNode s.cpu.rip → t.end ≡ None → HasCode wm t.mem → RangeStands lay.added wm t.mem → t.cpu.rip ≡ lay.stub s.cpu.rip → StopsAtStub dec lay s t)
     (x w : Machine) (begins : IsNode x.cpu.rip) (stands : Stand lay place xm wm x w) where
   -- after n steps along kept edges the old run stands at a node, and the new one at its place
   record Arrived (n : ℕ) : Type 0 where
@@ -192,8 +192,8 @@ module _ (dec : Decoder) (edges : Edges) (lay : Layout) (place bound : ℕ → �
       cut : (j : ℕ) → RunClear lay.added dec x (suc j) → IsCut dec edges x j
           → (m : ℕ) × (j < m) × ((after dec m w).end ≡ None) × Same lay.added (after dec (suc j) x) (after dec m w)
           × ((after dec m w).cpu.rip ≡ lay.stub (after dec j x).cpu.rip)
-          × StopsAtStub dec (after dec m w)
+          × StopsAtStub dec lay (after dec j x) (after dec m w)
       cut j clear h =
           let p = paced.cut j clear h in
           let a = arrives j (λ i lt. clear i (omega arith)) (λ i lt c. h.first i lt c.leaves) (ran dec (after dec j x) h.leaves.runs) in
-          (p.0, moment_least dec lay.added bound x w (suc j) p.0 p.1, p.2, p.1.4, p.3, stub_stops (after dec p.0 w) (after dec j x).cpu.rip a.node p.2 (after_code wm dec p.0 w stands.new_heap stands.new_code) (after_range lay.added wm dec p.0 w stands.new_heap stands.below stands.added) p.3)
+          (p.0, moment_least dec lay.added bound x w (suc j) p.0 p.1, p.2, p.1.4, p.3, stub_stops (after dec j x) (after dec p.0 w) a.node p.2 (after_code wm dec p.0 w stands.new_heap stands.new_code) (after_range lay.added wm dec p.0 w stands.new_heap stands.below stands.added) p.3)

@@ -6,7 +6,7 @@ use Rattle.rz_isa.specs.Items.{slots}
 use Rattle.rz_isa.specs.Plan.{code_end, IsPlan, IsLeastPlan}
 use Rattle.rz_isa.specs.Sizes.{CanMove}
 use Rattle.rz_layout.specs.declared.plan.Layout.{Layout}
-use Rattle.rz_layout.specs.Layout.{nodes_of, all_near, forms_of, AreLow, ArePlaces, IsAscending}
+use Rattle.rz_layout.specs.Layout.{nodes_of, all_near, AreLow, ArePlaces, IsAscending}
 use Rattle.rz_emit.specs.Emitted.{emitted, IsOrdered}
 use Rattle.rz_rewrite.specs.declared.added.AddedRange.{AddedRange}
 use Rattle.rz_rewrite.specs.declared.code.NewCode.{NewCode}
@@ -27,9 +27,9 @@ pub record IsLaid (rows : List Row) (range : AddedRange) (f : Fragments) (entry 
   pub laid : Layout
   pub base : laid.base ≡ range.code
   pub stop : laid.stubs ≡ range.stubs
-  pub plan : IsPlan rows f range.code (forms_of laid)
-  pub places : ArePlaces rows f range.code (forms_of laid) laid.places
-  pub least : IsLeastPlan rows f range.code (forms_of laid)
+  pub plan : IsPlan rows f range.code laid.forms
+  pub places : ArePlaces rows f range.code laid.forms laid.places
+  pub least : IsLeastPlan rows f range.code laid.forms
   pub bytes : code.bytes ≡ emitted rows f laid
   pub spots : code.places ≡ places_from laid.places 0 f.list
   pub stubs : code.stubs ≡ f.stubs

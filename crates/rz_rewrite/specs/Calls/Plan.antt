@@ -10,7 +10,7 @@ use Rattle.rz_isa.specs.Decoded.{decoded}
 use Rattle.rz_isa.specs.Insn.{kind_of}
 use Rattle.rz_isa.specs.Plan.{code_end, IsPlan, IsLeastPlan}
 use Rattle.rz_isa.specs.Nodes.{Decoder, Code, is_site, spelled_at}
-use Rattle.rz_elf.specs.AddedRange.{Added}
+use Rattle.rz_elf.specs.AddedRange.{Added, filled}
 use Rattle.rz_elf.specs.Elf.{Image, image_of}
 use Rattle.rz_elf.specs.PlainImage.{IsPlainImage}
 use Rattle.rz_machine.specs.Kept.{Edges, Kept, sorted}
@@ -20,10 +20,11 @@ use Rattle.rz_machine.specs.Start.{HasHeapRoom}
 use Rattle.rz_machine.specs.WrittenFile.{Inert}
 use Rattle.rz_sites.specs.Site.{IsSite}
 use Rattle.rz_rewrite.specs.declared.added.AddedRange.{AddedRange}
-use Rattle.rz_emit.specs.Emitted.{code_bytes, filled}
+use Rattle.rz_emit.specs.Emitted.{code_bytes}
 use Rattle.rz_rewrite.specs.declared.code.NewCode.{NewCode}
 use Rattle.rz_rewrite.specs.declared.rewrite.New.{New}
-use Rattle.rz_rewrite.specs.Fragments.{targets_of, stub_pairs}
+use Rattle.rz_machine.specs.Sequence.{targets_of}
+use Rattle.rz_rewrite.specs.Fragments.{stub_pairs}
 use Rattle.rz_rewrite.specs.Refusals.{no_room_for}
 use Rattle.rz_rewrite.specs.Rewritten.{CanRewrite, IsInReach, HasPlacement, IsPaced, IsNewFile, fragments_of, place_by, stubs_of}
 

@@ -1,16 +1,9 @@
-use Rattle.std.proofs.Common.{◌≤◌, length, ap, arith, rules}
-use Rattle.rz_elf.specs.Laws.Reading.{whole_header}
+use Rattle.std.proofs.Common.{sym, ◌∙◌}
+use Rattle.std.proofs.lemmas.Bool.{cond-true, cond-false}
 use Rattle.rz_elf.proofs.stamp.stamped.Goals as goal
 
-pub slice_bounds-starts_with-count : goal.slice_bounds-starts_with-count
-slice_bounds-starts_with-count c =
-    let whole = whole_header c.elf.inside.bytes c.elf.invariant.accepted in
-    let same = ap length c.as_slice.ensures.value in
-    omega arith
+pub returns-then-has_stamp : goal.returns-then-has_stamp
+returns-then-has_stamp c = sym (cond-true _ _ _ (sym c.has_stamp.ensures ∙ c.if-has_stamp.true))
 
-pub slice_bounds-starts_with-start : goal.slice_bounds-starts_with-start
-slice_bounds-starts_with-start c =
-    let whole = whole_header c.elf.inside.bytes c.elf.invariant.accepted in
-    let same = ap length c.as_slice.ensures.value in
-    let inside : 9 ≤ length c.as_slice.result.now = omega arith in
-    search rules
+pub returns-else-has_stamp : goal.returns-else-has_stamp
+returns-else-has_stamp c = sym (cond-false _ _ _ (sym c.has_stamp.ensures ∙ c.if-has_stamp.false))

@@ -4,8 +4,8 @@ use Rattle.rz_isa.specs.declared.item_list.Slot.{Slot}
 use Rattle.rz_isa.specs.Canonical.{canonical}
 use Rattle.rz_isa.specs.Items.{slots}
 use Rattle.rz_isa.specs.Plan.{form_at, place}
-use Rattle.rz_layout.specs.Layout.{forms_of}
-use Rattle.rz_emit.specs.Emitted.{spelling, bytes_from, item_bytes, code_bytes, filled, HoldsItems}
+use Rattle.rz_elf.specs.AddedRange.{filled}
+use Rattle.rz_emit.specs.Emitted.{spelling, bytes_from, item_bytes, code_bytes, HoldsItems}
 use Rattle.rz_emit.specs.Calls.Lengths.{slot_place, IsChosen}
 use Rattle.rz_emit.proofs.Addresses.{item_of, place_is}
 use Rattle.rz_emit.proofs.Bytes.{one_more, all_there, canonical_item, code_long, holds}
@@ -17,25 +17,25 @@ pub code_end-requires-clause-chosen : goal.code_end-requires-clause-chosen
 code_end-requires-clause-chosen g c =
     let list = c.as_slice-slots.ensures.value ∙ c.in_ok-order.ensures.slots in
     subst (λ (l : List Slot). All (λ s. IsChosen g.T.InsnTable.rows s.item) l) (sym list)
-    (all_chosen g.T.InsnTable.rows c.args.frags.now c.args.laid.now.base (forms_of c.args.laid.now) c.requires.laid.plan)
+    (all_chosen g.T.InsnTable.rows c.args.frags.now c.args.laid.now.base c.args.laid.now.forms c.requires.laid.plan)
 
 pub code_end-requires-clause-low : goal.code_end-requires-clause-low
 code_end-requires-clause-low g c =
     let list = c.as_slice-slots.ensures.value ∙ c.in_ok-order.ensures.slots in
-    let same = ap (λ (l : List Slot). slot_place g.T.InsnTable.rows l c.args.laid.now.base (forms_of c.args.laid.now) (length l)) list in
+    let same = ap (λ (l : List Slot). slot_place g.T.InsnTable.rows l c.args.laid.now.base c.args.laid.now.forms (length l)) list in
     let top = c.distance-size.ensures.low in
     omega (arith, same, c.requires.laid.ends, top)
 
 pub loop-k-init : goal.loop-k-init
 loop-k-init g c =
-    ap (λ out. out ++ code_bytes g.T.InsnTable.rows c.args.frags.now c.args.laid.now.base (forms_of c.args.laid.now)) c.new-out.ensures
+    ap (λ out. out ++ code_bytes g.T.InsnTable.rows c.args.frags.now c.args.laid.now.base c.args.laid.now.forms) c.new-out.ensures
 
 pub emit_insn-requires : goal.emit_insn-requires
 emit_insn-requires g c =
     let rows = g.T.InsnTable.rows in
     let frags = c.args.frags.now in
     let base = c.args.laid.now.base in
-    let forms = forms_of c.args.laid.now in
+    let forms = c.args.laid.now.forms in
     let k = c.loop-k.k in
     let x = c.in-Some.insn in
     let list = c.as_slice-slots.ensures.value ∙ c.in_ok-order.ensures.slots in
@@ -55,7 +55,7 @@ loop-k-preserved g c =
     let rows = g.T.InsnTable.rows in
     let frags = c.args.frags.now in
     let base = c.args.laid.now.base in
-    let forms = forms_of c.args.laid.now in
+    let forms = c.args.laid.now.forms in
     let k = c.loop-k.k in
     let list = c.as_slice-slots.ensures.value ∙ c.in_ok-order.ensures.slots in
     let ends = c.code_end.ensures ∙ ap (λ (l : List Slot). slot_place rows l base forms (length l)) list in
@@ -84,7 +84,7 @@ filled-requires g c =
     let rows = g.T.InsnTable.rows in
     let frags = c.args.frags.now in
     let base = c.args.laid.now.base in
-    let forms = forms_of c.args.laid.now in
+    let forms = c.args.laid.now.forms in
     let list = c.as_slice-slots.ensures.value ∙ c.in_ok-order.ensures.slots in
     let size : c.distance-size.result ≡ c.args.laid.now.stubs - base = omega (arith, c.distance-size.ensures.value) in
     let all = all_there rows frags base forms c.loop-k.k c.loop-k.out (code_bytes rows frags base forms) (omega (arith, ap length list, c.loop-k-test.false)) c.loop-k.invariant in
@@ -95,7 +95,7 @@ returns-clause-value g c =
     let rows = g.T.InsnTable.rows in
     let frags = c.args.frags.now in
     let base = c.args.laid.now.base in
-    let forms = forms_of c.args.laid.now in
+    let forms = c.args.laid.now.forms in
     let list = c.as_slice-slots.ensures.value ∙ c.in_ok-order.ensures.slots in
     let size : c.distance-size.result ≡ c.args.laid.now.stubs - base = omega (arith, c.distance-size.ensures.value) in
     let all = all_there rows frags base forms c.loop-k.k c.loop-k.out (code_bytes rows frags base forms) (omega (arith, ap length list, c.loop-k-test.false)) c.loop-k.invariant in
@@ -110,7 +110,7 @@ returns-clause-items g c =
     let rows = g.T.InsnTable.rows in
     let frags = c.args.frags.now in
     let base = c.args.laid.now.base in
-    let forms = forms_of c.args.laid.now in
+    let forms = c.args.laid.now.forms in
     let code = code_bytes rows frags base forms in
     let list = c.as_slice-slots.ensures.value ∙ c.in_ok-order.ensures.slots in
     let size : c.distance-size.result ≡ c.args.laid.now.stubs - base = omega (arith, c.distance-size.ensures.value) in

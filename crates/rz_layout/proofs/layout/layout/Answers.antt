@@ -1,12 +1,12 @@
-use Rattle.std.proofs.Common.{◌+◌, ◌^◌, ◌<◌, ◌∙◌, List, [], length, map, sym, ap, subst, arith}
+use Rattle.std.proofs.Common.{◌+◌, ◌^◌, ◌<◌, ◌∙◌, List, [], length, sym, subst, arith}
 use Rattle.rz_isa.specs.declared.rows.Form.{Form}
 use Rattle.rz_isa.specs.Plan.{IsPlan, IsLeastPlan}
 use Rattle.rz_isa.specs.Items.{slots}
 use Rattle.rz_layout.specs.declared.piece.Piece.{Piece}
-use Rattle.rz_layout.specs.Layout.{form_of, number_of, ArePlaces}
+use Rattle.rz_layout.specs.Layout.{ArePlaces}
 use Rattle.rz_layout.specs.Calls.Pieces.{total_len, HaveLabels, IsPiecePlan, IsLeastForms, ArePlaces as ArePiecePlaces}
 use Rattle.rz_layout.proofs.Flat.{have_labels}
-use Rattle.rz_layout.proofs.Planned.{all_chosen, low_end, below, item_plan, least_plan, item_places, same_forms}
+use Rattle.rz_layout.proofs.Planned.{all_chosen, low_end, below, item_plan, least_plan, item_places}
 use Rattle.rz_layout.proofs.layout.layout.Goals as goal
 
 pub pieces_of-requires-clause-chosen : goal.pieces_of-requires-clause-chosen
@@ -22,27 +22,18 @@ places_of-requires-clause-low g c =
     subst (λ (l : List Piece). c.args.base + total_len l [] < 2 ^ 31) (sym (c.as_slice-2.ensures.value ∙ c.in_ok-pieces.ensures))
     (low_end g.T.InsnTable.rows c.args.frags.now c.args.base c.requires.items c.args.stubs c.emits.ensures.emits c.spelled_within.ensures c.canonical_lengths.ensures.same c.requires.near c.requires.ends c.requires.low c.requires.low_stubs)
 
-pub returns-clause-forms : goal.returns-clause-forms
-returns-clause-forms g c =
-    let e = c.in_ok-forms-2.ensures ∙ ap (map number_of) c.as_slice-4.ensures.value in
-    let forms = c.in_ok-forms.forms.items in
-    let f = ap (map form_of) e ∙ same_forms forms in
-    e ∙ ap (map number_of) (sym f)
-
 pub returns-clause-plan : goal.returns-clause-plan
 returns-clause-plan g c =
-    let e = c.in_ok-forms-2.ensures ∙ ap (map number_of) c.as_slice-4.ensures.value in
     let forms = c.in_ok-forms.forms.items in
-    let f = ap (map form_of) e ∙ same_forms forms in
+    let f = c.from_vec.ensures in
     let plan = subst (λ (l : List Piece). IsPiecePlan l forms) (c.as_slice.ensures.value ∙ c.in_ok-pieces.ensures) c.in_ok-forms.ensures.plan in
     subst (λ (l : List Form). IsPlan g.T.InsnTable.rows c.args.frags.now c.args.base l) (sym f)
     (item_plan g.T.InsnTable.rows c.args.frags.now c.args.base c.requires.items c.args.stubs c.emits.ensures.emits c.spelled_within.ensures c.canonical_lengths.ensures.same c.requires.near c.requires.ends c.requires.low c.requires.low_stubs forms plan)
 
 pub returns-clause-places : goal.returns-clause-places
 returns-clause-places g c =
-    let e = c.in_ok-forms-2.ensures ∙ ap (map number_of) c.as_slice-4.ensures.value in
     let forms = c.in_ok-forms.forms.items in
-    let f = ap (map form_of) e ∙ same_forms forms in
+    let f = c.from_vec.ensures in
     let are = subst (λ (l : List Form). ArePiecePlaces c.as_slice-2.result.now c.args.base l c.in_ok-places.places) c.as_slice-3.ensures.value c.in_ok-places.ensures in
     let are' = subst (λ (l : List Piece). ArePiecePlaces l c.args.base forms c.in_ok-places.places) (c.as_slice-2.ensures.value ∙ c.in_ok-pieces.ensures) are in
     subst (λ (l : List Form). ArePlaces g.T.InsnTable.rows c.args.frags.now c.args.base l c.in_ok-places.places) (sym f)
@@ -50,9 +41,8 @@ returns-clause-places g c =
 
 pub returns-clause-least : goal.returns-clause-least
 returns-clause-least g c =
-    let e = c.in_ok-forms-2.ensures ∙ ap (map number_of) c.as_slice-4.ensures.value in
     let forms = c.in_ok-forms.forms.items in
-    let f = ap (map form_of) e ∙ same_forms forms in
+    let f = c.from_vec.ensures in
     let least = subst (λ (l : List Piece). IsLeastForms l forms) (c.as_slice.ensures.value ∙ c.in_ok-pieces.ensures) c.in_ok-forms.ensures.least in
     subst (λ (l : List Form). IsLeastPlan g.T.InsnTable.rows c.args.frags.now c.args.base l) (sym f)
     (least_plan g.T.InsnTable.rows c.args.frags.now c.args.base c.requires.items forms least)

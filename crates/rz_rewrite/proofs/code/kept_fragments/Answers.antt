@@ -2,12 +2,14 @@ use Rattle.std.proofs.Common.{◌≡◌, ℕ, ◌+◌, ◌*◌, ◌^◌, ◌<◌
 use Rattle.rz_isa.specs.declared.rows.Row.{Row}
 use Rattle.rz_isa.specs.declared.fragment_list.Fragments.{Fragments}
 use Rattle.rz_isa.specs.Decoded.{decoded}
+use Rattle.rz_elf.specs.Format.{stub_size}
 use Rattle.rz_elf.specs.AddedRange.{Added}
 use Rattle.rz_elf.specs.Elf.{Image, image_of}
 use Rattle.rz_machine.specs.Kept.{Kept, sorted}
 use Rattle.rz_machine.specs.Nodes.{code_in}
 use Rattle.rz_machine.specs.Traced.{kept_in}
-use Rattle.rz_rewrite.specs.Fragments.{node_items, fragment_list, stub_pairs}
+use Rattle.rz_machine.specs.Sequence.{node_items}
+use Rattle.rz_rewrite.specs.Fragments.{fragment_list, stub_pairs}
 use Rattle.rz_rewrite.specs.Rewritten.{IsFit}
 use Rattle.rz_rewrite.specs.Calls.Plan.{AreMovable}
 use Rattle.rz_rewrite.proofs.NewCodeLaws.{movable, stubs_end, made_is, may_lay, Made}
@@ -37,7 +39,7 @@ stub_pairs-requires g c =
     let count = ap length c.requires.nodes in
     go c.args.range.now.stubs _ (length c.args.nodes.now) _ stubs count low
   where
-    go : (r s n m : ℕ) → r ≡ s → n ≡ m → s + 24 * m < 2 ^ 31 → r + 24 * n < 2 ^ 64
+    go : (r s n m : ℕ) → r ≡ s → n ≡ m → s + stub_size * m < 2 ^ 31 → r + stub_size * n < 2 ^ 64
     go r s n m e f h = omega (arith, e, f, h)
 
 pub returns-clause-all : goal.returns-clause-all

@@ -6,7 +6,7 @@ use Rattle.rz_isa.specs.Nodes.{Decoder, Code, spelled_at}
 use Rattle.rz_elf.specs.Elf.{image_of}
 use Rattle.rz_machine.specs.Nodes.{code_in}
 use Rattle.rz_rewrite.specs.Calls.Plan.{CanMoveAt}
-use Rattle.rz_rewrite.specs.Fragments.{items_for, node_items}
+use Rattle.rz_machine.specs.Sequence.{items_for, node_items}
 use Rattle.rz_rewrite.proofs.FragmentSteps.{all_at, fragments_turn, all_fragments}
 use Rattle.rz_rewrite.proofs.fragments.fragment_list.Goals as goal
 

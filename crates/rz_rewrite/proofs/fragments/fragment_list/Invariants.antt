@@ -2,7 +2,8 @@ use Rattle.std.proofs.Common.{◌≡◌, ◌++◌, drop}
 use Rattle.rz_isa.specs.Decoded.{decoded}
 use Rattle.rz_elf.specs.Elf.{image_of}
 use Rattle.rz_machine.specs.Nodes.{code_in}
-use Rattle.rz_rewrite.specs.Fragments.{node_items, fragment_list}
+use Rattle.rz_machine.specs.Sequence.{node_items}
+use Rattle.rz_rewrite.specs.Fragments.{fragment_list}
 use Rattle.rz_rewrite.proofs.fragments.fragment_list.Given as goal
 
 abbrev pub invariant-loop-i : goal.invariant-loop-i

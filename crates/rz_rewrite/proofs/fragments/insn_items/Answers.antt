@@ -2,7 +2,7 @@ use Rattle.std.proofs.Common.{◌+◌, ◌==◌, map, filter, sym, ap, ◌∙◌
 use Rattle.std.proofs.lemmas.Bool.{cond-true}
 use Rattle.std.specs.List.Sorted.{IsNonDecreasingBy}
 use Rattle.rz_machine.specs.Kept.{Edges}
-use Rattle.rz_sites.specs.Site.{site_items}
+use Rattle.rz_machine.specs.Sequence.{site_items}
 use Rattle.rz_rewrite.proofs.OkLaws.{if_ok_is}
 use Rattle.rz_rewrite.proofs.TargetRange.{sources_ascend}
 use Rattle.rz_rewrite.proofs.fragments.insn_items.Goals as goal

@@ -1,12 +1,13 @@
 use Rattle.std.proofs.Common.{◌≡◌, ℕ, ◌-◌, List, ◌++◌, length, replicate, ap, ◌∙◌, arith}
 use Rattle.rz_image.specs.Memory.{zeros}
+use Rattle.rz_elf.specs.Format.{int3}
 use Rattle.rz_rewrite.proofs.Parts.{length-all_stubs}
 use Rattle.rz_rewrite.proofs.rewrite.parts_with.Goals as goal
 
 pub filled-requires-2 : goal.filled-requires-2
 filled-requires-2 c =
-    let same = ap length c.in_ok-stubs.ensures in
-    let n = length-all_stubs c.args.nodes.now in
+    let same = ap length (c.in_ok-stubs.ensures c.args.range.now.stubs) in
+    let n = length-all_stubs c.args.range.now.stubs c.args.nodes.now in
     omega (arith, same, n, c.requires.stubs)
 
 pub returns-clause-tables : goal.returns-clause-tables
@@ -15,3 +16,8 @@ returns-clause-tables c =
     let n = c.args.range.now.code - c.args.range.now.tables in
     let all : n - 0 ≡ n = omega arith in
     c.in_ok-tables.ensures ∙ ap (λ (l : List ℕ). l ++ replicate (n - length l) 0) c.new.ensures ∙ ap (λ k. replicate k 0) all
+
+pub returns-clause-stubs : goal.returns-clause-stubs
+returns-clause-stubs c =
+    let n = c.args.range.now.stop - c.args.range.now.stubs in
+    c.in_ok-stubs-2.ensures ∙ ap (λ (l : List ℕ). l ++ replicate (n - length l) int3) (c.in_ok-stubs.ensures c.args.range.now.stubs)

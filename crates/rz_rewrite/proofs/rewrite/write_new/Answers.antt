@@ -2,7 +2,8 @@ use Rattle.std.proofs.Common.{◌-◌, ◌<◌, List, length, refl, ap, ◌∙�
 use Rattle.std.specs.List.{AllByRecursion}
 use Rattle.rz_isa.specs.declared.rows.Row.{Row}
 use Rattle.rz_isa.specs.Decoded.{decoded}
-use Rattle.rz_elf.specs.AddedRange.{Added, all_stubs, filled}
+use Rattle.rz_elf.specs.Format.{all_stubs}
+use Rattle.rz_elf.specs.AddedRange.{Added, filled}
 use Rattle.rz_elf.specs.Elf.{image_of}
 use Rattle.rz_elf.specs.PlainImage.{IsPlainImage}
 use Rattle.rz_elf.specs.Laws.PlainAccepted.{accepted_plain}
@@ -46,7 +47,7 @@ write_elf-requires g c =
       base = c.in_ok-parts.ensures.base;
       tables = c.in_ok-parts.ensures.tables;
       code_is = c.in_ok-parts.ensures.code;
-      stubs = c.in_ok-parts.ensures.stubs ∙ ap (λ l. filled (c.args.range.now.stop - c.args.range.now.stubs) (all_stubs l)) c.requires.nodes;
+      stubs = c.in_ok-parts.ensures.stubs ∙ ap (λ l. filled (c.args.range.now.stop - c.args.range.now.stubs) (all_stubs c.args.range.now.stubs l)) c.requires.nodes;
     } in
     let are = (rewritten rows c.table_facts.ensures x kept c.args.range.now q c.in_ok-code.code c.in_ok-code.ensures c.in_ok-parts.parts made).parts_added in
     record {
@@ -66,7 +67,7 @@ returns g c =
       base = c.in_ok-parts.ensures.base;
       tables = c.in_ok-parts.ensures.tables;
       code_is = c.in_ok-parts.ensures.code;
-      stubs = c.in_ok-parts.ensures.stubs ∙ ap (λ l. filled (c.args.range.now.stop - c.args.range.now.stubs) (all_stubs l)) c.requires.nodes;
+      stubs = c.in_ok-parts.ensures.stubs ∙ ap (λ l. filled (c.args.range.now.stop - c.args.range.now.stubs) (all_stubs c.args.range.now.stubs l)) c.requires.nodes;
     } in
     let file = c.in_ok-bytes.ensures in
     let plain : IsPlainImage (image_of c.in_ok-bytes.bytes) = accepted_plain c.in_ok-bytes.bytes (subst (AllByRecursion (λ b. b < 256)) c.as_slice.ensures.value (each_byte _ c.are_bytes.ensures.each)) file.accepted in

@@ -1,5 +1,5 @@
 use Rattle.std.proofs.Common.{◌≡◌, ◌+◌, ◌*◌, ◌^◌, ◌<◌, length, drop, ◌++◌}
-use Rattle.rz_sites.specs.Site.{check as check_of}
+use Rattle.rz_machine.specs.Sequence.{check as check_of}
 use Rattle.rz_sites.proofs.check.push_check.Given as goal
 
 abbrev pub invariant-loop-target : goal.invariant-loop-target

@@ -1,7 +1,7 @@
 use Rattle.std.proofs.Common.{◌≡◌, ◌+◌, ◌*◌, List, length, sym, ap, ◌∙◌, subst, ◌++◌}
 use Rattle.rz_isa.specs.declared.item_list.Item.{Item}
 use Rattle.rz_isa.specs.Sizes.{IsSized}
-use Rattle.rz_sites.specs.Site.{site_items, check}
+use Rattle.rz_machine.specs.Sequence.{site_items, check}
 use Rattle.rz_sites.proofs.items.site.Goals as goal
 
 pub returns-clause-sized : goal.returns-clause-sized

@@ -3,7 +3,7 @@ use Rattle.std.specs.List.{AllByRecursion}
 use Rattle.rz_elf.specs.declared.elf.Load.{Load}
 use Rattle.rz_elf.specs.Loaded.{IsLoad}
 use Rattle.rz_elf.specs.Laws.Loads.{loadable, load_at}
-use Rattle.rz_machine.proofs.stub.stub_word.Goals as goal
+use Rattle.rz_machine.proofs.stub.illegal_stub.Goals as goal
 
 pub stub_in-requires : goal.stub_in-requires
 stub_in-requires c =
