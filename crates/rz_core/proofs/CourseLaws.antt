@@ -1,55 +1,100 @@
 -- The answers of commands that read files in order.
-use Rattle.std.proofs.Common.{ℕ, List, [], ◌∷◌, inl, inr, ⊎_elim, sym, subst}
+use Rattle.std.proofs.Common.{◌≡◌, ℕ, ◌≤◌, ◌∙◌, List, [], ◌∷◌, inl, inr, ⊎_elim, IsTrue, sym, subst}
+use Rattle.std.specs.Prelude.{Option, Some, None, Result, Ok, Err}
+use Rattle.rz_outside.specs.Counts.{Rose, rose_later}
+use Rattle.rz_outside.specs.StoreAnswers.{SameFiles}
 use Rattle.rz_outside.specs.StoreCalls.{StoreCalls, Held}
+use Rattle.rz_elf.specs.Elf.{fault_of}
+use Rattle.rz_classes.specs.Fault.{fault_of as class_fault_of}
+use Rattle.rz_input.specs.Fault.{fault_of as input_fault_of}
 use Rattle.rz_core.specs.declared.status.Status.{Status}
 use Rattle.rz_core.specs.declared.status.Status.TheVariants as status
-use Rattle.rz_core.specs.Kinds.{Kind, Done, TextLost, FileLost, NoMemory, Refused, kind_of}
-use Rattle.rz_core.specs.Reading.{Demand, Accepted, ClassFile, InputNumber, Wanted, HoldAll, Refuses, ReadRefusal, FileRefusal, Course}
+use Rattle.rz_core.specs.Statuses.{Kind, Done, TextLost, NoMemory, Refused, kind_of}
+use Rattle.rz_core.specs.Reading.{ReadRefusal}
+use Rattle.rz_core.specs.declared.plan.Demand.{Demand}
+use Rattle.rz_core.specs.declared.plan.Demand.TheVariants as demand
+use Rattle.rz_core.specs.declared.plan.Wanted.{Wanted}
+use Rattle.rz_core.specs.Reading.{Read, judged, taken_as, IsTaken, AreTaken, FileRefusal, Course}
 
-pub course_map : (ws : List Wanted) (s : StoreCalls) (P Q : Status → Type 0) (st : Status) → (P st → Q st) → Course ws s P st → Course ws s Q st
-course_map [] s P Q st f h = f h
-course_map (w ∷ ws) s P Q st f h = ⊎_elim (λ r. inl r) (λ r. inr (r.0, course_map ws s P Q st f r.1)) h
+pub course_map : (ws : List Wanted) (r : Read) (s : StoreCalls) (P Q : Read → Status → Type 0) (st : Status) → ((last : Read) → P last st → Q last st) → Course ws r s P st → Course ws r s Q st
+course_map [] r s P Q st f h = f r h
+course_map (w ∷ ws) r s P Q st f h = ⊎_elim (λ x. inl x) (λ x. inr (x.0, x.1, course_map ws x.0 s P Q st f x.2)) h
 
 -- memory may be wanting at any time
-pub course_memory : (ws : List Wanted) (s : StoreCalls) (P : Status → Type 0) → P status.OutOfMemory → Course ws s P status.OutOfMemory
-course_memory [] s P p = p
-course_memory (w ∷ ws) s P p = inl (inl tt)
+pub course_memory : (ws : List Wanted) (r : Read) (s : StoreCalls) (P : Read → Status → Type 0) → ((last : Read) → P last status.OutOfMemory) → Course ws r s P status.OutOfMemory
+course_memory [] r s P p = p r
+course_memory (w ∷ ws) r s P p = inl (inl tt)
 
 -- all files were read
-pub course_end : (ws : List Wanted) (s : StoreCalls) (P : Status → Type 0) (st : Status) (contents : List (List ℕ)) → HoldAll (Held s) ws contents → P st → Course ws s P st
-course_end [] s P st contents all p = p
-course_end (w ∷ ws) s P st [] all p = absurd all
-course_end (w ∷ ws) s P st (x ∷ xs) all p = inr ((x, all.0, all.1), course_end ws s P st xs all.2 p)
+pub course_end : (ws : List Wanted) (r : Read) (s : StoreCalls) (P : Read → Status → Type 0) (st : Status) (last : Read) → AreTaken (Held s) ws r last → P last st → Course ws r s P st
+course_end [] r s P st last e p = subst (λ (x : Read). P x st) (sym e) p
+course_end (w ∷ ws) r s P st last all p = inr (all.0, all.1, course_end ws all.0 s P st last all.2 p)
+
+-- an answer that comes before a write
+abbrev pub IsEarly : Kind → Type 0
+IsEarly NoMemory = Unit {0}
+IsEarly Refused = Unit {0}
+IsEarly _ = ⊥
+
+abbrev pub IsEarlyAt : Status → Type 0
+IsEarlyAt st = IsEarly (kind_of st)
+
+read_early : (name : List ℕ) (s : StoreCalls) (st : Status) → ReadRefusal name s st → IsEarlyAt st
+read_early name s (status.ReadFault file) h = tt
+read_early name s status.OutOfMemory h = tt
+read_early name s _ h = absurd h
+
+judged_early : {E : Type 0} (o : Option E) (refusal : E → Status) (next : Result Read Status) (st : Status) → ((f : E) → IsEarlyAt (refusal f)) → (next ≡ Err st → IsEarlyAt st) → judged o refusal next ≡ Err st → IsEarlyAt st
+judged_early None refusal next st f g e = g e
+judged_early (Some x) refusal next st f g e = let same : refusal x ≡ st = cc in subst IsEarlyAt same (f x)
+
+not_err : (r : Read) (st : Status) → Ok r ≡ Err st → IsEarlyAt st
+not_err r st e = absurd cc
+
+taken_early : (d : Demand) (name : List ℕ) (r : Read) (x : List ℕ) (st : Status) → taken_as d name r x ≡ Err st → IsEarlyAt st
+taken_early demand.Accepted name r x st e = judged_early (fault_of x) _ _ st (λ f. tt) (not_err _ st) e
+taken_early demand.ClassFile name r x st e = judged_early (class_fault_of x) _ _ st (λ f. tt) (not_err _ st) e
+taken_early demand.Input name r x st e = judged_early (input_fault_of x) _ _ st (λ f. tt) (not_err _ st) e
+
+pub refusal_early : (w : Wanted) (r : Read) (s : StoreCalls) (st : Status) → FileRefusal w r s st → IsEarlyAt st
+refusal_early w r s st h = ⊎_elim (λ u. read_early w.name s st u) (λ u. taken_early w.demand w.name r u.0 st u.2) h
+
+pub course_early : (ws : List Wanted) (r : Read) (s : StoreCalls) (P : Read → Status → Type 0) (st : Status) → ((last : Read) → P last st → IsEarlyAt st) → Course ws r s P st → IsEarlyAt st
+course_early [] r s P st f h = f r h
+course_early (w ∷ ws) r s P st f h =
+    ⊎_elim (λ x. refusal_early w r s st x)
+    (λ x. course_early ws x.0 s P st f x.2) h
+
+-- what a later read says of an earlier moment, between which no file changed
+later_read : (name : List ℕ) (s t : StoreCalls) (st : Status) → t.told ≡ s.told → SameFiles s.old t.old → s.before ≤ t.before → t.now ≡ s.now → t.failed ≡ s.failed → ReadRefusal name t st → ReadRefusal name s st
+later_read name s t (status.ReadFault file) told same le now failed h =
+    (h.0, ⊎_elim (λ r. inl (subst (Rose s.before) now (rose_later s.before t.before t.now le r.0), sym failed ∙ r.1)) (λ m. inr (subst IsTrue told m.0, sym (same name) ∙ m.1)) h.1)
+later_read name s t status.OutOfMemory told same le now failed h = tt
+later_read name s t _ told same le now failed h = absurd h
+
+later_held : (name x : List ℕ) (s t : StoreCalls) → t.told ≡ s.told → SameFiles s.old t.old → Held t name x → Held s name x
+later_held name x s t told same h = λ y. sym (same name) ∙ h (subst IsTrue (sym told) y)
+
+pub later_refusal : (w : Wanted) (r : Read) (s t : StoreCalls) (st : Status) → t.told ≡ s.told → SameFiles s.old t.old → s.before ≤ t.before → t.now ≡ s.now → t.failed ≡ s.failed → FileRefusal w r t st → FileRefusal w r s st
+later_refusal w r s t st told same le now failed h =
+    ⊎_elim (λ x. inl (later_read w.name s t st told same le now failed x)) (λ x. inr (x.0, later_held w.name x.0 s t told same x.1, x.2)) h
+
+pub later_taken : (w : Wanted) (r next : Read) (s t : StoreCalls) → t.told ≡ s.told → SameFiles s.old t.old → IsTaken (Held t) w r next → IsTaken (Held s) w r next
+later_taken w r next s t told same h = (h.0, later_held w.name h.0 s t told same h.1, h.2)
 
 -- an answer that isn't of a command that is done
 abbrev pub IsUndone : Kind → Type 0
 IsUndone Done = ⊥
 IsUndone TextLost = ⊥
-IsUndone FileLost = Unit {0}
-IsUndone NoMemory = Unit {0}
-IsUndone Refused = Unit {0}
+IsUndone _ = Unit {0}
 
-abbrev pub IsUndoneAt : Status → Type 0
-IsUndoneAt st = IsUndone (kind_of st)
+early_undone : (kind : Kind) → IsEarly kind → IsUndone kind
+early_undone NoMemory h = tt
+early_undone Refused h = tt
+early_undone _ h = absurd h
 
-read_undone : (name : List ℕ) (s : StoreCalls) (st : Status) → ReadRefusal name s st → IsUndoneAt st
-read_undone name s (status.ReadFault file) h = tt
-read_undone name s status.OutOfMemory h = tt
-read_undone name s _ h = absurd h
-
-unfit_undone : (d : Demand) (name x : List ℕ) (st : Status) → Refuses d name x st → IsUndoneAt st
-unfit_undone Accepted name x st h = subst IsUndoneAt (sym h.1) tt
-unfit_undone ClassFile name x st h = subst IsUndoneAt (sym h.1) tt
-unfit_undone (InputNumber k) name x st h = subst IsUndoneAt (sym h.1) tt
-
-file_undone : (w : Wanted) (s : StoreCalls) (st : Status) → FileRefusal w s st → IsUndoneAt st
-file_undone w s st h = ⊎_elim (λ r. read_undone w.name s st r) (λ r. unfit_undone w.demand w.name r.0 st r.2) h
-
-pub course_undone : (ws : List Wanted) (s : StoreCalls) (P : Status → Type 0) (st : Status) → (P st → IsUndoneAt st) → Course ws s P st → IsUndoneAt st
-course_undone [] s P st f h = f h
-course_undone (w ∷ ws) s P st f h = ⊎_elim (λ r. file_undone w s st r) (λ r. course_undone ws s P st f r.1) h
-
--- a command that was done came to its end
-pub course_ok : (ws : List Wanted) (s : StoreCalls) (P : Status → Type 0) → Course ws s P status.Ok → P status.Ok
-course_ok [] s P h = h
-course_ok (w ∷ ws) s P h = ⊎_elim (λ r. absurd (file_undone w s status.Ok r)) (λ r. course_ok ws s P r.1) h
+pub course_undone : (ws : List Wanted) (r : Read) (s : StoreCalls) (P : Read → Status → Type 0) (st : Status) → ((last : Read) → P last st → IsUndone (kind_of st)) → Course ws r s P st → IsUndone (kind_of st)
+course_undone [] r s P st f h = f r h
+course_undone (w ∷ ws) r s P st f h =
+    ⊎_elim (λ x. early_undone (kind_of st) (refusal_early w r s st x))
+    (λ x. course_undone ws x.0 s P st f x.2) h

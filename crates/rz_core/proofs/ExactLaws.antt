@@ -1,41 +1,33 @@
--- From the causes of all answers to the one that comes, for any command whose end is fixed by the contents of its files.
-use Rattle.std.proofs.Common.{◌≡◌, ℕ, inl, inr, ⊎_elim, List, [], ◌∷◌, refl, sym, ap, ap₂, ◌∙◌, subst}
-use Rattle.std.specs.Prelude.{◌⊎◌, IsTrue, Option, Some, None}
+-- From the causes of all answers to the one that comes, for any command whose end is fixed by what was read.
+use Rattle.std.proofs.Common.{◌≡◌, ℕ, List, [], ◌∷◌, inl, inr, ⊎_elim, refl, sym, ap, ◌∙◌, subst}
+use Rattle.std.specs.Prelude.{◌⊎◌, Some, None, Result, Ok, Err}
 use Rattle.rz_outside.specs.StoreAnswers.{Files}
-use Rattle.rz_outside.specs.StoreCalls.{StoreCalls, Held}
+use Rattle.rz_outside.specs.StoreCalls.{StoreCalls}
 use Rattle.rz_outside.specs.SinkCalls.{SinkCalls}
-use Rattle.rz_elf.specs.Elf.{fault_of}
-use Rattle.rz_input.specs.Fault.{fault_of as input_fault_of}
-use Rattle.rz_classes.specs.Fault.{fault_of as class_fault_of}
 use Rattle.rz_core.specs.declared.status.Status.{Status}
 use Rattle.rz_core.specs.declared.status.Status.TheVariants as status
 use Rattle.rz_core.specs.declared.status.Target.TheVariants as target
-use Rattle.rz_core.specs.Kinds.{Kind, Done, TextLost, FileLost, NoMemory, Refused, kind_of}
-use Rattle.rz_core.specs.Inputs.{line_of}
-use Rattle.rz_core.specs.Classes.{line_of as class_line_of}
-use Rattle.rz_core.specs.Reading.{Demand, Accepted, ClassFile, InputNumber, Wanted, HoldAll, Meets, Refuses, ReadCause, ReadRefusal, Course}
+use Rattle.rz_core.specs.Statuses.{Kind, Done, TextLost, FileLost, NoMemory, Refused, kind_of}
+use Rattle.rz_core.proofs.ResultLaws.{one_value, not_both}
+use Rattle.rz_core.specs.declared.plan.Wanted.{Wanted}
+use Rattle.rz_core.specs.Reading.{Read, nothing, taken, Course, ReadCause, ReadRefusal}
 use Rattle.rz_core.specs.Command.{Command}
-use Rattle.rz_core.specs.Causes.{WriteFails, LastAnswerOf, LastAnswer, CauseIn}
-use Rattle.rz_core.specs.Exact.{IsQuiet, holds, IsAnswered, IsInOrder, EndsExactly, IsExactIn}
+use Rattle.rz_core.specs.Causes.{LastAnswerOf, LastAnswer, CauseIn}
+use Rattle.rz_core.specs.Exact.{IsQuiet, IsAnswered, IsInOrder, EndsExactly, IsExactIn}
 
--- an option holds one value, or none
-pub one_value : {A : Type 0} (o : Option A) (x y : A) → o ≡ Some x → o ≡ Some y → x ≡ y
-one_value o x y e f = let g : Some x ≡ Some y = sym e ∙ f in cc
+-- what is read ends a command in one way
+abbrev pub EndsOnce : Command → Type 0
+EndsOnce c = (r : Read) (st other : Status) → c.work.Ends r st → c.work.Ends r other → st ≡ other
 
-pub not_both : {A : Type 0} (o : Option A) (x : A) → o ≡ Some x → o ≡ None → ⊥
-not_both o x e f = let g : Some x ≡ None = sym e ∙ f in cc
+-- a result is one value
+one_ok : (o : Result Read Status) (a b : Read) → o ≡ Ok a → o ≡ Ok b → a ≡ b
+one_ok o a b e f = cc
 
--- what is demanded isn't refused
-fit_not_refused : (d : Demand) (name x : List ℕ) (st : Status) → Meets d x → Refuses d name x st → ⊥
-fit_not_refused Accepted name x st m r = not_both (fault_of x) r.0 r.2 m
-fit_not_refused ClassFile name x st m r = not_both (class_fault_of x) r.0 r.2 m
-fit_not_refused (InputNumber k) name x st m r = not_both (input_fault_of x) r.0 r.2 m
+one_err : (o : Result Read Status) (a b : Status) → o ≡ Err a → o ≡ Err b → a ≡ b
+one_err o a b e f = cc
 
--- and a file is refused in one way
-one_refusal : (d : Demand) (name x : List ℕ) (st other : Status) → Refuses d name x st → Refuses d name x other → st ≡ other
-one_refusal Accepted name x st other a b = a.1 ∙ (ap (λ f. status.Refused name f) (one_value (fault_of x) a.0 b.0 a.2 b.2) ∙ sym b.1)
-one_refusal ClassFile name x st other a b = a.1 ∙ (ap (λ f. status.BadClasses (class_line_of f)) (one_value (class_fault_of x) a.0 b.0 a.2 b.2) ∙ sym b.1)
-one_refusal (InputNumber k) name x st other a b = a.1 ∙ (ap (λ f. status.BadInput k (line_of f)) (one_value (input_fault_of x) a.0 b.0 a.2 b.2) ∙ sym b.1)
+not_ok_err : {A : Type 0} (o : Result Read Status) (a : Read) (b : Status) → o ≡ Ok a → o ≡ Err b → A
+not_ok_err o a b e f = absurd cc
 
 -- where nothing fails, a read is refused for a missing name alone
 missing : (s : StoreCalls) (k : SinkCalls) (name : List ℕ) → IsQuiet s k → ReadCause s name → s.old name ≡ None
@@ -46,61 +38,61 @@ unread name s (status.ReadFault file) h = inr (ap (λ f. status.ReadFault f) h.0
 unread name s status.OutOfMemory h = inl refl
 unread name s _ h = absurd h
 
-order_memory : (ws : List Wanted) (files : Files) (End : Type 0) → End → IsInOrder ws files End status.OutOfMemory
-order_memory [] files End e = e
-order_memory (w ∷ ws) files End e = (record { missing = λ none. inr refl; refused = λ x st there r. inr refl }, λ fit. order_memory ws files End e)
+pub order_memory : (ws : List Wanted) (r : Read) (files : Files) (End : Read → Type 0) → ((last : Read) → End last) → IsInOrder ws r files End status.OutOfMemory
+order_memory [] r files End e = e r
+order_memory (w ∷ ws) r files End e =
+    (record { missing = λ none. inr refl; refused = λ x st there u. inr refl }, λ next there. order_memory ws next files End e)
 
-unread_exact : (w : Wanted) (ws : List Wanted) (s : StoreCalls) (k : SinkCalls) (End : Type 0) (answer : Status) → IsQuiet s k → (answer ≡ status.OutOfMemory → End)
-    → (answer ≡ status.OutOfMemory) ⊎ ((answer ≡ status.ReadFault w.name) × ReadCause s w.name) → IsInOrder (w ∷ ws) s.old End answer
-unread_exact w ws s k End answer q o h = ⊎_elim wanting there_not h
-  where
-    wanting : answer ≡ status.OutOfMemory → IsInOrder (w ∷ ws) s.old End answer
-    wanting e = let P : Status → Type 0 = λ a. IsInOrder (w ∷ ws) s.old End a in subst P (sym e) (order_memory (w ∷ ws) s.old End (o e))
+module _ (s : StoreCalls) (k : SinkCalls) (quiet : IsQuiet s k) (answer : Status) (w : Wanted) (r : Read) where
+  -- what the name holds
+  same : (x y : List ℕ) → s.old w.name ≡ Some x → s.old w.name ≡ Some y → taken w r y ≡ taken w r x
+  same x y e f = ap (taken w r) (one_value (s.old w.name) y x f e)
 
-    there_not : (answer ≡ status.ReadFault w.name) × ReadCause s w.name → IsInOrder (w ∷ ws) s.old End answer
-    there_not r =
-        let none = missing s k w.name q r.1 in
-        (record { missing = λ e. inl r.0; refused = λ x st there u. absurd (not_both (s.old w.name) x there none) }, λ fit. absurd (not_both (s.old w.name) fit.0 fit.1 none))
-
-unfit_exact : (w : Wanted) (ws : List Wanted) (s : StoreCalls) (End : Type 0) (answer : Status) (x : List ℕ) → s.old w.name ≡ Some x → Refuses w.demand w.name x answer → IsInOrder (w ∷ ws) s.old End answer
-unfit_exact w ws s End answer x there refuses =
-    let again : (y : List ℕ) → s.old w.name ≡ Some y → Refuses w.demand w.name y answer = λ y e. subst (λ z. Refuses w.demand w.name z answer) (one_value (s.old w.name) x y there e) refuses in (
+  unfit : (x : List ℕ) → s.old w.name ≡ Some x → taken w r x ≡ Err answer → IsAnswered s.old w r answer
+  unfit x there refuses =
       record {
         missing = λ none. absurd (not_both (s.old w.name) x there none);
-        refused = λ y st e r. inl (one_refusal w.demand w.name y answer st (again y e) r);
-      },
-      λ fit. absurd (fit_not_refused w.demand w.name fit.0 answer fit.2 (again fit.0 fit.1)),
-    )
+        refused = λ y st e u. inl (one_err (taken w r y) answer st (same x y there e ∙ refuses) u);
+      }
 
-read_answered : (w : Wanted) (s : StoreCalls) (answer : Status) (x : List ℕ) → s.old w.name ≡ Some x → Meets w.demand x → IsAnswered s.old w answer
-read_answered w s answer x there meets =
-    record {
-      missing = λ none. absurd (not_both (s.old w.name) x there none);
-      refused = λ y st e r. absurd (fit_not_refused w.demand w.name y st (subst (Meets w.demand) (one_value (s.old w.name) x y there e) meets) r);
-    }
+  fit : (x : List ℕ) (next : Read) → s.old w.name ≡ Some x → taken w r x ≡ Ok next → IsAnswered s.old w r answer
+  fit x next there takes =
+      record {
+        missing = λ none. absurd (not_both (s.old w.name) x there none);
+        refused = λ y st e u. not_ok_err (taken w r y) next st (same x y there e ∙ takes) u;
+      }
+
+  module _ (ws : List Wanted) (End : Read → Type 0) where
+    unread_exact : (answer ≡ status.OutOfMemory → (last : Read) → End last) → (answer ≡ status.OutOfMemory) ⊎ ((answer ≡ status.ReadFault w.name) × ReadCause s w.name) → IsInOrder (w ∷ ws) r s.old End answer
+    unread_exact o h = ⊎_elim wanting there_not h
+      where
+        wanting : answer ≡ status.OutOfMemory → IsInOrder (w ∷ ws) r s.old End answer
+        wanting e = let P : Status → Type 0 = λ a. IsInOrder (w ∷ ws) r s.old End a in subst P (sym e) (order_memory (w ∷ ws) r s.old End (o e))
+
+        there_not : (answer ≡ status.ReadFault w.name) × ReadCause s w.name → IsInOrder (w ∷ ws) r s.old End answer
+        there_not u =
+            let none = missing s k w.name quiet u.1 in (
+              record { missing = λ e. inl u.0; refused = λ x st there v. absurd (not_both (s.old w.name) x there none) },
+              λ next there. absurd (not_both (s.old w.name) there.0 there.1 none),
+            )
+
+    unfit_exact : (x : List ℕ) → s.old w.name ≡ Some x → taken w r x ≡ Err answer → IsInOrder (w ∷ ws) r s.old End answer
+    unfit_exact x there refuses =
+        (unfit x there refuses, λ next takes. not_ok_err (taken w r x) next answer (same takes.0 x takes.1 there ∙ takes.2) refuses)
 
 -- a course is the order of the answers, where nothing fails
-course_exact : (ws : List Wanted) (s : StoreCalls) (k : SinkCalls) (P : Status → Type 0) (End : Type 0) (answer : Status) → IsQuiet s k → (P answer → End) → (answer ≡ status.OutOfMemory → End)
-    → Course ws s P answer → IsInOrder ws s.old End answer
-course_exact [] s k P End answer q f o h = f h
-course_exact (w ∷ ws) s k P End answer q f o h =
+course_exact : (ws : List Wanted) (r : Read) (s : StoreCalls) (k : SinkCalls) (P : Read → Status → Type 0) (End : Read → Type 0) (answer : Status) → IsQuiet s k
+    → ((last : Read) → P last answer → End last) → (answer ≡ status.OutOfMemory → (last : Read) → End last) → Course ws r s P answer → IsInOrder ws r s.old End answer
+course_exact [] r s k P End answer q f o h = f r h
+course_exact (w ∷ ws) r s k P End answer q f o h =
     ⊎_elim
-    (λ r. ⊎_elim (λ u. unread_exact w ws s k End answer q o (unread w.name s answer u)) (λ u. unfit_exact w ws s End answer u.0 (u.1 q.told) u.2) r)
-    (λ r. (read_answered w s answer r.0.0 (r.0.1 q.told) r.0.2, λ fit. course_exact ws s k P End answer q f o r.1)) h
-
--- the contents that files hold are fixed
-contents_again : (s : StoreCalls) (ws : List Wanted) (xs ys : List (List ℕ)) → IsTrue s.told → HoldAll (Held s) ws xs → HoldAll (holds s.old) ws ys → xs ≡ ys
-contents_again s [] [] [] told a b = refl
-contents_again s [] [] (y ∷ ys) told a b = absurd b
-contents_again s [] (x ∷ xs) ys told a b = absurd a
-contents_again s (w ∷ ws) [] ys told a b = absurd a
-contents_again s (w ∷ ws) (x ∷ xs) [] told a b = absurd b
-contents_again s (w ∷ ws) (x ∷ xs) (y ∷ ys) told a b =
-    ap₂ (λ h t. h ∷ t) (one_value (s.old w.name) x y (a.0 told) b.0) (contents_again s ws xs ys told a.2 b.2)
-
--- contents end a command in one way
-abbrev pub EndsOnce : Command → Type 0
-EndsOnce c = (contents : List (List ℕ)) (st other : Status) → c.Ends contents st → c.Ends contents other → st ≡ other
+    (λ x. ⊎_elim (λ u. unread_exact s k q answer w r ws End o (unread w.name s answer u)) (λ u. unfit_exact s k q answer w r ws End u.0 (u.1 q.told) u.2) x)
+    (λ x. (
+      fit s k q answer w r x.1.0 x.0 (x.1.1 q.told) x.1.2,
+      λ next there. subst (λ n. IsInOrder ws n s.old End answer)
+          (one_ok (taken w r x.1.0) x.0 next x.1.2 (same s k q answer w r there.0 x.1.0 there.1 (x.1.1 q.told) ∙ there.2))
+          (course_exact ws x.0 s k P End answer q f o x.2),
+    )) h
 
 no_memory : (st : Status) → kind_of st ≡ NoMemory → st ≡ status.OutOfMemory
 no_memory status.OutOfMemory e = refl
@@ -109,21 +101,14 @@ no_memory (status.WriteFault target.File) e = absurd cc
 no_memory _ e = absurd cc
 
 module _ (c : Command) (once : EndsOnce c) (s : StoreCalls) (k : SinkCalls) (answer : Status) (quiet : IsQuiet s k) where
-  ended : (contents : List (List ℕ)) → HoldAll (Held s) c.reads contents → c.Ends contents answer → EndsExactly c s.old answer
-  ended contents read ends = λ others st there says. inl (once others answer st (subst (λ (xs : List (List ℕ)). c.Ends xs answer) (contents_again s c.reads contents others quiet.told read there) ends) says)
-
-  unwritten : (out : Option (List ℕ)) → WriteFails out c s → ⊥
-  unwritten None h = h
-  unwritten (Some out) h = quiet.store h.0
-
-  ends_exactly : (kind : Kind) → kind_of answer ≡ kind → LastAnswerOf kind c s k answer → EndsExactly c s.old answer
-  ends_exactly Done e h = ended h.1.contents h.1.read h.1.ends
-  ends_exactly TextLost e h = absurd (quiet.sink h.0)
-  ends_exactly FileLost e h = absurd (unwritten c.out h)
-  ends_exactly NoMemory e h = λ others st there says. inr (no_memory answer e)
-  ends_exactly Refused e h = ended h.0 h.1 h.2
+  ends_exactly : (kind : Kind) → kind_of answer ≡ kind → (r : Read) → LastAnswerOf kind c s k r answer → EndsExactly c answer r
+  ends_exactly Done e r h = λ st says. inl (once r answer st (subst (λ (a : Status). c.work.Ends r a) h.1 h.2.0.ends) says)
+  ends_exactly TextLost e r h = absurd (quiet.sink h.0)
+  ends_exactly FileLost e r h = absurd (quiet.store h.0.0)
+  ends_exactly NoMemory e r h = λ st says. inr (no_memory answer e)
+  ends_exactly Refused e r h = λ st says. inl (once r answer st h says)
 
   pub exactly : CauseIn c s k answer → IsExactIn c s.old answer
   exactly h =
-      course_exact c.reads s k (LastAnswer c s k) (EndsExactly c s.old answer) answer quiet (ends_exactly (kind_of answer) refl)
-      (λ e. (λ others st there says. inr e)) h
+      course_exact c.reads nothing s k (LastAnswer c s k) (EndsExactly c answer) answer quiet (ends_exactly (kind_of answer) refl)
+      (λ e last st says. inr e) h

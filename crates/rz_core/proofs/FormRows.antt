@@ -1,16 +1,25 @@
 -- Worked rows of the forms.
-use Rattle.std.proofs.Common.{◌≡◌, [], ◌∷◌, Some, None, refl}
+use Rattle.std.proofs.Common.{◌≡◌, ℕ, List, [], ◌∷◌, Some, None, refl}
 use Rattle.std.specs.Prelude.{codes}
 use Rattle.rz_text.specs.Number.{decimal, hexadecimal}
+use Rattle.rz_paths.specs.declared.level.Level.{Level}
 use Rattle.rz_paths.specs.declared.level.Level.TheVariants as level
-use Rattle.rz_core.specs.Words.{Debloating, Running, Disassembling, Generating, Tracing, Replaying, Reporting, form_of}
+use Rattle.rz_core.specs.declared.plan.Demand.TheVariants.{Accepted, ClassFile, Input}
+use Rattle.rz_core.specs.declared.plan.Values.{Values}
+use Rattle.rz_core.specs.declared.plan.Verb.TheVariants as verb
+use Rattle.rz_core.specs.Words.{form_of, wanted}
 
-leading_zeros : form_of (codes "run" ∷ codes "e" ∷ codes "010" ∷ codes "i" ∷ []) ≡ Some (Running (record { exe = codes "e"; limit = 10; input = codes "i" }))
-unfolding decimal
+values : ℕ → ℕ → Level → Values
+values number address at = record { number = number; address = address; level = at }
+
+leading_zeros : form_of (codes "run" ∷ codes "e" ∷ codes "010" ∷ codes "i" ∷ [])
+    ≡ Some (record { verb = verb.Run; values = values 10 0 level.Exact; reads = wanted (codes "e") Accepted ∷ wanted (codes "i") Input ∷ []; writes = [] })
+unfolding decimal values
 leading_zeros = refl
 
-greatest_limit : form_of (codes "run" ∷ codes "e" ∷ codes "1000000000" ∷ codes "i" ∷ []) ≡ Some (Running (record { exe = codes "e"; limit = 1000000000; input = codes "i" }))
-unfolding decimal
+greatest_limit : form_of (codes "run" ∷ codes "e" ∷ codes "1000000000" ∷ codes "i" ∷ [])
+    ≡ Some (record { verb = verb.Run; values = values 1000000000 0 level.Exact; reads = wanted (codes "e") Accepted ∷ wanted (codes "i") Input ∷ []; writes = [] })
+unfolding decimal values
 greatest_limit = refl
 
 past_the_limit : form_of (codes "run" ∷ codes "e" ∷ codes "1000000001" ∷ codes "i" ∷ []) ≡ None
@@ -28,13 +37,18 @@ no_words : form_of [] ≡ None
 no_words = refl
 
 a_class_file : form_of (codes "debloat" ∷ codes "e" ∷ codes "--" ∷ codes "zlib" ∷ codes "1" ∷ codes "w" ∷ codes "i" ∷ [])
-    ≡ Some (Debloating (record { exe = codes "e"; classes = Some (codes "--"); level = level.Zlib; limit = 1; out = codes "w"; inputs = codes "i" ∷ [] }))
-unfolding decimal
+    ≡ Some (record {
+      verb = verb.Debloat;
+      values = values 1 0 level.Zlib;
+      reads = wanted (codes "e") Accepted ∷ wanted (codes "--") ClassFile ∷ wanted (codes "i") Input ∷ [];
+      writes = codes "w" ∷ [];
+    })
+unfolding decimal values
 a_class_file = refl
 
 no_class_file : form_of (codes "debloat" ∷ codes "-" ∷ codes "-" ∷ codes "exact" ∷ codes "1" ∷ codes "-" ∷ codes "-" ∷ [])
-    ≡ Some (Debloating (record { exe = codes "-"; classes = None; level = level.Exact; limit = 1; out = codes "-"; inputs = codes "-" ∷ [] }))
-unfolding decimal
+    ≡ Some (record { verb = verb.Debloat; values = values 1 0 level.Exact; reads = wanted (codes "-") Accepted ∷ wanted (codes "-") Input ∷ []; writes = codes "-" ∷ [] })
+unfolding decimal values
 no_class_file = refl
 
 no_name_of_classes : form_of (codes "debloat" ∷ codes "e" ∷ [] ∷ codes "exact" ∷ codes "1" ∷ codes "w" ∷ codes "i" ∷ []) ≡ None
@@ -43,35 +57,53 @@ no_name_of_classes = refl
 another_level : form_of (codes "debloat" ∷ codes "e" ∷ codes "-" ∷ codes "Exact" ∷ codes "1" ∷ codes "w" ∷ codes "i" ∷ []) ≡ None
 another_level = refl
 
-either_case : form_of (codes "disasm" ∷ codes "e" ∷ codes "0x00aF" ∷ codes "100000" ∷ []) ≡ Some (Disassembling (record { exe = codes "e"; at = 175; count = 100000 }))
-unfolding decimal hexadecimal
+either_case : form_of (codes "disasm" ∷ codes "e" ∷ codes "0x00aF" ∷ codes "100000" ∷ [])
+    ≡ Some (record { verb = verb.Disasm; values = values 100000 175 level.Exact; reads = wanted (codes "e") Accepted ∷ []; writes = [] })
+unfolding decimal hexadecimal values
 either_case = refl
 
 no_prefix : form_of (codes "disasm" ∷ codes "e" ∷ codes "af" ∷ codes "1" ∷ []) ≡ None
 unfolding hexadecimal
 no_prefix = refl
 
-most_functions : form_of (codes "gen" ∷ codes "4000" ∷ codes "o" ∷ []) ≡ Some (Generating (record { count = 4000; out = codes "o" }))
-unfolding decimal
+most_functions : form_of (codes "gen" ∷ codes "4000" ∷ codes "o" ∷ [])
+    ≡ Some (record { verb = verb.Generate; values = values 4000 0 level.Exact; reads = []; writes = codes "o" ∷ [] })
+unfolding decimal values
 most_functions = refl
 
 too_many_functions : form_of (codes "gen" ∷ codes "4001" ∷ codes "o" ∷ []) ≡ None
 unfolding decimal
 too_many_functions = refl
 
-two_inputs : form_of (codes "trace" ∷ codes "e" ∷ codes "100" ∷ codes "t" ∷ codes "i" ∷ codes "j" ∷ []) ≡ Some (Tracing (record { exe = codes "e"; limit = 100; out = codes "t"; inputs = codes "i" ∷ codes "j" ∷ [] }))
-unfolding decimal
+two_inputs : form_of (codes "trace" ∷ codes "e" ∷ codes "100" ∷ codes "t" ∷ codes "i" ∷ codes "j" ∷ [])
+    ≡ Some (record {
+      verb = verb.Trace;
+      values = values 100 0 level.Exact;
+      reads = wanted (codes "e") Accepted ∷ wanted (codes "i") Input ∷ wanted (codes "j") Input ∷ [];
+      writes = codes "t" ∷ [];
+    })
+unfolding decimal values
 two_inputs = refl
 
 no_input : form_of (codes "trace" ∷ codes "e" ∷ codes "100" ∷ codes "t" ∷ []) ≡ None
+unfolding decimal
 no_input = refl
 
-one_replay : form_of (codes "replay" ∷ codes "e" ∷ codes "w" ∷ codes "1000" ∷ codes "i" ∷ []) ≡ Some (Replaying (record { exe = codes "e"; new_file = codes "w"; limit = 1000; input = codes "i" }))
-unfolding decimal
+one_replay : form_of (codes "replay" ∷ codes "e" ∷ codes "w" ∷ codes "1000" ∷ codes "i" ∷ [])
+    ≡ Some (record {
+      verb = verb.Replay;
+      values = values 1000 0 level.Exact;
+      reads = wanted (codes "e") Accepted ∷ wanted (codes "w") Accepted ∷ wanted (codes "i") Input ∷ [];
+      writes = [];
+    })
+unfolding decimal values
 one_replay = refl
 
 two_replays : form_of (codes "replay" ∷ codes "e" ∷ codes "w" ∷ codes "1000" ∷ codes "i" ∷ codes "j" ∷ []) ≡ None
+unfolding decimal
 two_replays = refl
 
-one_report : form_of (codes "report" ∷ codes "e" ∷ codes "w" ∷ []) ≡ Some (Reporting (record { exe = codes "e"; new_file = codes "w" }))
+one_report : form_of (codes "report" ∷ codes "e" ∷ codes "w" ∷ [])
+    ≡ Some (record { verb = verb.Report; values = values 0 0 level.Exact; reads = wanted (codes "e") Accepted ∷ wanted (codes "w") Accepted ∷ []; writes = [] })
+unfolding values
 one_report = refl

@@ -5,7 +5,6 @@ use Rattle.rz_aset.specs.declared.kept.Record.{Record}
 use Rattle.rz_aset.specs.Sets.{has, has_edge}
 use Rattle.rz_aset.specs.Laws.Sorted.{sorted_same, sorted_edges_same}
 use Rattle.rz_classes.specs.declared.listed.Function.{Function}
-use Rattle.rz_table.specs.declared.profile_rows.TheConstants.{PROFILE}
 use Rattle.rz_elf.specs.Elf.{image_of}
 use Rattle.rz_elf.specs.Room.{extent_of, no_room}
 use Rattle.rz_machine.specs.Kept.{Kept, sorted, sorted_edges}
@@ -16,10 +15,10 @@ use Rattle.rz_rewrite.specs.Refusals.{rip_reach_of, no_room_for, size_for}
 use Rattle.rz_paths.specs.declared.level.Level.{Level}
 use Rattle.rz_paths.specs.declared.level.Level.TheVariants as level
 use Rattle.rz_paths.specs.Sets.{In, Edges, joins}
-use Rattle.rz_paths.specs.Program.{Program, program_of}
+use Rattle.rz_paths.specs.Program.{Program}
 use Rattle.rz_paths.specs.Levels.{IsEdgeAt, Keeps as KeepsAt}
 use Rattle.rz_paths.specs.Laws.Growing.{edges_grow}
-use Rattle.rz_core.specs.Decoding.{decode_profile}
+use Rattle.rz_core.specs.Decoding.{decode_profile, profile_program}
 use Rattle.rz_core.specs.Debloated.{Sources, record_of, recorded_of, IsKept}
 
 -- truths that follow from each other are equal
@@ -43,7 +42,7 @@ module _ (at : Level) (program : Program) (functions : List Function) (recorded 
 
 module _ (at : Level) (limit : ℕ) (from : Sources) (one other : Kept) (f : IsKept at limit from one) (g : IsKept at limit from other) where
   abbrev program : Program
-  program = program_of PROFILE from.exe
+  program = profile_program from.exe
 
   abbrev recorded : Record
   recorded = record_of (recorded_of limit from.exe from.inputs)

@@ -5,14 +5,12 @@ use Rattle.std.specs.List.{AllByRecursion}
 use Rattle.rz_machine.specs.declared.machine.Machine.{Machine}
 use Rattle.rz_sys.specs.declared.input.Input.{Input}
 use Rattle.rz_aset.specs.declared.kept.Record.{Record}
-use Rattle.rz_table.specs.declared.profile_rows.TheConstants.{PROFILE}
 use Rattle.rz_machine.specs.Kept.{Kept, has_edge}
 use Rattle.rz_paths.specs.declared.level.Level.{Level}
-use Rattle.rz_paths.specs.Program.{program_of}
 use Rattle.rz_paths.specs.Levels.{IsWithin, Keeps as KeepsAt}
 use Rattle.rz_image.specs.Memory.{NoSelfWritten}
 use Rattle.rz_elf.specs.Elf.{image_of, Image}
-use Rattle.rz_core.specs.Decoding.{decode_profile}
+use Rattle.rz_core.specs.Decoding.{decode_profile, profile_program}
 use Rattle.rz_elf.specs.Loaded.{ElfFile, IsRead, loaded}
 use Rattle.rz_machine.specs.Start.{start}
 use Rattle.rz_machine.specs.Recorded.{StaysPlausible}
@@ -24,7 +22,7 @@ use Rattle.rz_elf.specs.PlainImage.{IsPlainRegion, IsPlainImage}
 use Rattle.rz_rewrite.specs.declared.refusal.Refusal.{Refusal}
 use Rattle.rz_rewrite.specs.declared.refusal.Refusal.TheVariants as refusal
 use Rattle.rz_rewrite.specs.Refusals.{rip_reach_of, no_room_for, IsRefusal}
-use Rattle.rz_rewrite.specs.Rewritten.{CanRewrite}
+use Rattle.rz_rewrite.specs.Rewritten.{CanRewrite, IsPaced}
 use Rattle.rz_elf.specs.Laws.Loads.{loaded_image}
 use Rattle.rz_image.specs.Laws.Cells.{IsFixed, all_map, none_self_written}
 use Rattle.rz_elf.specs.Laws.PlainAccepted.{accepted_plain}
@@ -60,18 +58,18 @@ module _ (elf : ElfFile) (is : IsRead elf) where
 
 -- a level's set of what the runs recorded
 module _ (level : Level) (limit : ℕ) (from : Sources) (rec kept : Record) (recorded : kept_in rec ≡ recorded_of limit from.exe from.inputs)
-    (keeps : KeepsAt level (program_of PROFILE from.exe) from.functions rec kept)
+    (keeps : KeepsAt level (profile_program from.exe) from.functions rec kept)
   where
     pub is_kept : IsKept level limit from (kept_in kept)
     is_kept =
-        let same : KeepsAt level (program_of PROFILE from.exe) from.functions (record_of (kept_in rec)) (record_of (kept_in kept)) = keeps in
-        subst (λ (k : Kept). KeepsAt level (program_of PROFILE from.exe) from.functions (record_of k) (record_of (kept_in kept))) recorded same
+        let same : KeepsAt level (profile_program from.exe) from.functions (record_of (kept_in rec)) (record_of (kept_in kept)) = keeps in
+        subst (λ (k : Kept). KeepsAt level (profile_program from.exe) from.functions (record_of k) (record_of (kept_in kept))) recorded same
 
     -- what is made of a file for it
     module _ (stay : AllStay limit from.exe from.inputs) where
       pub debloated_of : (w : List ℕ) → IsWithin rec kept → rip_reach_of decode_profile from.exe (kept_in kept) ≡ None → no_room_for decode_profile from.exe (kept_in kept) ≡ None
-          → Keeps decode_profile from.exe w (kept_in kept) → Inert decode_profile from.exe w (kept_in kept) → IsDebloated level limit from w
-      debloated_of w within reach room runs inert =
+          → Keeps decode_profile from.exe w (kept_in kept) → IsPaced decode_profile from.exe w (kept_in kept) → Inert decode_profile from.exe w (kept_in kept) → IsDebloated level limit from w
+      debloated_of w within reach room runs paced inert =
           record {
             stay = stay;
             kept = kept_in kept;
@@ -79,6 +77,7 @@ module _ (level : Level) (limit : ℕ) (from : Sources) (rec kept : Record) (rec
             reach = reach;
             room = room;
             keeps = runs;
+            paced = paced;
             uncut = all_uncut limit from.exe kept.edges from.inputs
                 (subst (λ (k : Kept). (a b : ℕ) → has_edge k.edges a b ≡ true → has_edge kept.edges a b ≡ true) recorded within.edges) stay;
             inert = inert;

@@ -1,7 +1,8 @@
-pub mod Held
-pub mod Programs
+pub mod Taking
 pub mod Making
+pub mod Outcomes
 pub mod Running
 pub mod Replaying
+pub mod Planned
 pub mod Carried
 pub mod Putting

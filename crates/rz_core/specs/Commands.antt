@@ -1,23 +1,29 @@
 -- The command of each form.
-use Rattle.rz_core.specs.Words.{Form, Debloating, Checking, Disassembling, Generating, Running, Tracing, Replaying, Reporting, Demonstrating}
-use Rattle.rz_core.specs.Command.{Command}
-use Rattle.rz_core.specs.Checked.{check_command}
-use Rattle.rz_core.specs.Debloated.{debloat_command}
-use Rattle.rz_core.specs.Listed.{disasm_command}
-use Rattle.rz_core.specs.Ran.{run_command}
-use Rattle.rz_core.specs.Generated.{generate_command}
-use Rattle.rz_core.specs.Recorded.{trace_command}
-use Rattle.rz_core.specs.Replayed.{replay_command}
-use Rattle.rz_core.specs.Paired.{report_command}
-use Rattle.rz_core.specs.Demonstrated.{demo_command}
+use Rattle.rz_core.specs.declared.plan.Verb.{Verb}
+use Rattle.rz_core.specs.declared.plan.Verb.TheVariants as verb
+use Rattle.rz_core.specs.declared.plan.Values.{Values}
+use Rattle.rz_core.specs.Words.{Planned}
+use Rattle.rz_core.specs.Command.{Work, Command}
+use Rattle.rz_core.specs.Checked.{check_work}
+use Rattle.rz_core.specs.Debloated.{debloat_work}
+use Rattle.rz_core.specs.Listed.{disasm_work}
+use Rattle.rz_core.specs.Ran.{run_work}
+use Rattle.rz_core.specs.Generated.{generate_work}
+use Rattle.rz_core.specs.Recorded.{trace_work}
+use Rattle.rz_core.specs.Replayed.{replay_work}
+use Rattle.rz_core.specs.Paired.{report_work}
+use Rattle.rz_core.specs.Demonstrated.{demo_work}
 
-abbrev pub command_of : Form → Command
-command_of (Debloating d) = debloat_command d
-command_of (Checking c) = check_command c
-command_of (Disassembling d) = disasm_command d
-command_of (Generating g) = generate_command g
-command_of (Running r) = run_command r
-command_of (Tracing t) = trace_command t
-command_of (Replaying r) = replay_command r
-command_of (Reporting r) = report_command r
-command_of (Demonstrating d) = demo_command d
+abbrev pub work_of : Verb → Values → Work
+work_of verb.Debloat v = debloat_work v.level v.number
+work_of verb.Check v = check_work
+work_of verb.Disasm v = disasm_work v.address v.number
+work_of verb.Generate v = generate_work v.number
+work_of verb.Run v = run_work v.number
+work_of verb.Trace v = trace_work v.number
+work_of verb.Replay v = replay_work v.number
+work_of verb.Report v = report_work
+work_of verb.Demo v = demo_work v.number
+
+abbrev pub command_of : Planned → Command
+command_of p = record { reads = p.reads; writes = p.writes; work = work_of p.verb p.values }

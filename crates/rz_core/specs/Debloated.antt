@@ -1,18 +1,15 @@
 -- What debloating makes of a file, its listed functions and inputs: what a level keeps, the written file, and the report.
-use Rattle.std.specs.Prelude.{◌≡◌, ◌⊎◌, ℕ, suc, List, [], ◌∷◌, map, fold, Option, Some, None, IsSomeAnd}
+use Rattle.std.specs.Prelude.{◌≡◌, ◌⊎◌, ℕ, suc, List, [], ◌∷◌, fold, Some, None}
 use Rattle.std.specs.List.{AllByRecursion}
 use Rattle.rz_aset.specs.declared.kept.Record.{Record}
-use Rattle.rz_table.specs.declared.profile_rows.TheConstants.{PROFILE}
 use Rattle.rz_classes.specs.declared.listed.Function.{Function}
-use Rattle.rz_classes.specs.Fault.{functions_of}
 use Rattle.rz_machine.specs.declared.machine.Machine.{Machine}
 use Rattle.rz_sys.specs.declared.input.Input.{Input}
 use Rattle.rz_machine.specs.Kept.{Kept}
 use Rattle.rz_paths.specs.declared.level.Level.{Level}
-use Rattle.rz_paths.specs.Program.{program_of}
 use Rattle.rz_paths.specs.Levels.{Keeps as KeepsAt}
 use Rattle.rz_elf.specs.Elf.{image_of}
-use Rattle.rz_core.specs.Decoding.{decode_profile}
+use Rattle.rz_core.specs.Decoding.{decode_profile, profile_program}
 use Rattle.rz_machine.specs.Start.{start}
 use Rattle.rz_machine.specs.Traced.{with_run}
 use Rattle.rz_machine.specs.LeftCode.{LeavesCode, StaysInCode}
@@ -20,13 +17,12 @@ use Rattle.rz_machine.specs.Keeps.{Keeps}
 use Rattle.rz_machine.specs.Recorded.{IsUncut}
 use Rattle.rz_machine.specs.WrittenFile.{Inert}
 use Rattle.rz_rewrite.specs.Refusals.{rip_reach_of, no_room_for}
+use Rattle.rz_rewrite.specs.Rewritten.{IsPaced}
 use Rattle.rz_report.specs.Report.{debloat_report_of}
-use Rattle.rz_input.specs.Value.{input_of}
 use Rattle.rz_core.specs.declared.status.Status.{Status}
 use Rattle.rz_core.specs.declared.status.Status.TheVariants as status
-use Rattle.rz_core.specs.Words.{Debloat}
-use Rattle.rz_core.specs.Reading.{wanted_sources}
-use Rattle.rz_core.specs.Command.{Command}
+use Rattle.rz_core.specs.Reading.{Read, exe_of}
+use Rattle.rz_core.specs.Command.{Work, IsOne}
 
 -- ---- the traced runs
 
@@ -67,7 +63,7 @@ record_of kept = record { nodes = kept.nodes; edges = kept.edges }
 -- a set is what a level keeps of what the runs record in their first `limit` steps, in any order
 abbrev pub IsKept : Level → ℕ → Sources → Kept → Type 0
 IsKept level limit s kept =
-    KeepsAt level (program_of PROFILE s.exe) s.functions (record_of (recorded_of limit s.exe s.inputs)) (record_of kept)
+    KeepsAt level (profile_program s.exe) s.functions (record_of (recorded_of limit s.exe s.inputs)) (record_of kept)
 
 -- ---- what is made for it
 
@@ -80,6 +76,8 @@ pub record IsDebloated (level : Level) (limit : ℕ) (s : Sources) (w : List ℕ
   pub room : no_room_for decode_profile s.exe kept ≡ None
   -- each run of w follows the file's, up to the first edge that isn't kept
   pub keeps : Keeps decode_profile s.exe w kept
+  -- each step of the file's run is followed within its bound
+  pub paced : IsPaced decode_profile s.exe w kept
   -- the traced runs take no such edge before they ended or their limit came
   pub uncut : AllByRecursion (λ input. IsUncut decode_profile kept.edges (traced s.exe input) limit) s.inputs
   pub inert : Inert decode_profile s.exe w kept
@@ -106,20 +104,15 @@ DebloatEnds level limit s status.Ok =
     StayAnd level limit s (λ kept. (rip_reach_of decode_profile s.exe kept ≡ None) × (no_room_for decode_profile s.exe kept ≡ None))
 DebloatEnds level limit s _ = ⊥
 
--- ---- of the files that it reads
+-- ---- of what was read
 
--- the contents are the executable, the class text, if there is one, and the texts of the inputs
-abbrev pub sources_of : Option (List ℕ) → List (List ℕ) → Option Sources
-sources_of None (x ∷ texts) = Some (sources x [] (map input_of texts))
-sources_of (Some name) (x ∷ classes ∷ texts) = Some (sources x (functions_of classes) (map input_of texts))
-sources_of _ _ = None
+abbrev pub sources_in : Read → Sources
+sources_in r = sources (exe_of r) r.functions r.inputs
 
-abbrev pub debloat_command : Debloat → Command
-debloat_command d =
+abbrev pub debloat_work : Level → ℕ → Work
+debloat_work level limit =
     record {
-      reads = wanted_sources d.exe d.classes d.inputs;
-      Ends = λ contents answer. IsSomeAnd (sources_of d.classes contents) (λ s. DebloatEnds d.level d.limit s answer);
-      Text = λ contents w text. IsSomeAnd (sources_of d.classes contents) (λ s. IsReport d.level d.limit s text);
-      out = Some d.out;
-      New = λ contents w. IsSomeAnd (sources_of d.classes contents) (λ s. IsDebloated d.level d.limit s w);
+      Ends = λ r answer. DebloatEnds level limit (sources_in r) answer;
+      New = λ r ws. IsOne (IsDebloated level limit (sources_in r)) ws;
+      Text = λ r ws text. IsReport level limit (sources_in r) text;
     }

@@ -1,16 +1,13 @@
 -- The command `gen`.
-use Rattle.std.specs.Prelude.{◌≡◌, [], length, Some}
+use Rattle.std.specs.Prelude.{◌≡◌, ℕ, [], ◌∷◌, length}
 use Rattle.rz_gen.specs.Generated.{generated}
 use Rattle.rz_core.specs.Texts.{generated_text}
-use Rattle.rz_core.specs.Words.{Generate}
-use Rattle.rz_core.specs.Command.{Command, EndsWell}
+use Rattle.rz_core.specs.Command.{Work, EndsWell}
 
-abbrev pub generate_command : Generate → Command
-generate_command g =
+abbrev pub generate_work : ℕ → Work
+generate_work count =
     record {
-      reads = [];
-      Ends = λ contents answer. EndsWell answer;
-      Text = λ contents w text. text ≡ generated_text (length (generated g.count));
-      out = Some g.out;
-      New = λ contents w. w ≡ generated g.count;
+      Ends = λ r answer. EndsWell answer;
+      New = λ r ws. ws ≡ generated count ∷ [];
+      Text = λ r ws text. text ≡ generated_text (length (generated count));
     }

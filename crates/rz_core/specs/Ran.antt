@@ -1,19 +1,17 @@
 -- The command `run`: how a file runs on an input.
-use Rattle.std.specs.Prelude.{◌≡◌, ℕ, List, [], ◌∷◌, Option, Some, None}
+use Rattle.std.specs.Prelude.{◌≡◌, ℕ, List, [], Option, Some, None}
 use Rattle.rz_sys.specs.declared.input.Input.{Input}
 use Rattle.rz_elf.specs.Loaded.{elf_of}
 use Rattle.rz_machine.specs.declared.machine.Machine.{Machine}
 use Rattle.rz_machine.specs.State.{after}
 use Rattle.rz_machine.specs.Stub.{stub_word_of}
 use Rattle.rz_replay.specs.RunText.{run_text_of}
-use Rattle.rz_input.specs.Value.{input_of}
 use Rattle.rz_core.specs.declared.status.Status.{Status}
 use Rattle.rz_core.specs.declared.status.Status.TheVariants as status
 use Rattle.rz_core.specs.Decoding.{decode_profile}
-use Rattle.rz_core.specs.Words.{Run}
-use Rattle.rz_core.specs.Reading.{wanted_program}
+use Rattle.rz_core.specs.Reading.{exe_of, input_in}
 use Rattle.rz_core.specs.Debloated.{traced}
-use Rattle.rz_core.specs.Command.{Command}
+use Rattle.rz_core.specs.Command.{Work}
 
 -- the state that a file comes to on an input, after at most `limit` steps
 abbrev pub ran : ℕ → List ℕ → Input → Machine
@@ -33,21 +31,10 @@ RunEnds limit x input _ = ⊥
 abbrev pub ran_text : ℕ → List ℕ → Input → List ℕ
 ran_text limit x input = run_text_of (elf_of x) (ran limit x input)
 
--- the contents are the executable and the text of the input
-abbrev pub RunEndsBy : ℕ → List (List ℕ) → Status → Type 0
-RunEndsBy limit (x ∷ text ∷ []) answer = RunEnds limit x (input_of text) answer
-RunEndsBy limit _ answer = ⊥
-
-abbrev pub ran_text_by : ℕ → List (List ℕ) → List ℕ
-ran_text_by limit (x ∷ text ∷ []) = ran_text limit x (input_of text)
-ran_text_by limit _ = []
-
-abbrev pub run_command : Run → Command
-run_command r =
+abbrev pub run_work : ℕ → Work
+run_work limit =
     record {
-      reads = wanted_program r.exe (r.input ∷ []);
-      Ends = RunEndsBy r.limit;
-      Text = λ contents w text. text ≡ ran_text_by r.limit contents;
-      out = None;
-      New = λ contents w. ⊥;
+      Ends = λ r answer. RunEnds limit (exe_of r) (input_in r) answer;
+      New = λ r ws. ws ≡ [];
+      Text = λ r ws text. text ≡ ran_text limit (exe_of r) (input_in r);
     }

@@ -1,64 +1,86 @@
--- The files that a command reads, in order, and how each is refused.
-use Rattle.std.specs.Prelude.{◌≡◌, ◌⊎◌, ℕ, suc, List, [], ◌∷◌, Option, Some, None}
+-- The files that a command reads, in order: what each gives, in the light of those before it, and how it is refused.
+use Rattle.std.specs.Prelude.{◌≡◌, ◌⊎◌, ℕ, ◌+◌, List, [], ◌∷◌, ◌++◌, length, Option, Some, None, Result, Ok, Err}
 use Rattle.rz_outside.specs.Counts.{Rose}
 use Rattle.rz_outside.specs.StoreAnswers.{IsMissing}
 use Rattle.rz_outside.specs.StoreCalls.{StoreCalls, Held}
-use Rattle.rz_elf.specs.declared.fault.ElfFault.{ElfFault}
 use Rattle.rz_elf.specs.Elf.{fault_of}
-use Rattle.rz_input.specs.declared.error.InputError.{InputError}
+use Rattle.rz_elf.specs.Loaded.{ElfFile, elf_of}
+use Rattle.rz_classes.specs.declared.listed.Function.{Function}
+use Rattle.rz_classes.specs.Fault.{fault_of as class_fault_of, functions_of}
+use Rattle.rz_sys.specs.declared.input.Input.{Input}
+use Rattle.rz_sys.specs.Input.{empty_input}
 use Rattle.rz_input.specs.Fault.{fault_of as input_fault_of}
+use Rattle.rz_input.specs.Value.{input_of}
 use Rattle.rz_core.specs.declared.status.Status.{Status}
 use Rattle.rz_core.specs.declared.status.Status.TheVariants as status
-use Rattle.rz_classes.specs.declared.error.ClassError.{ClassError}
-use Rattle.rz_classes.specs.Fault.{fault_of as class_fault_of}
+use Rattle.rz_core.specs.declared.files.Files.{Files}
+use Rattle.rz_core.specs.declared.plan.Demand.{Demand}
+use Rattle.rz_core.specs.declared.plan.Demand.TheVariants as demand
+use Rattle.rz_core.specs.declared.plan.Wanted.{Wanted}
 use Rattle.rz_core.specs.Inputs.{line_of}
 use Rattle.rz_core.specs.Classes.{line_of as class_line_of}
 
--- what a file has to be: an accepted file, a class file, or the input of this number
-pub data Demand : Type 0 where
-  Accepted : Demand
-  ClassFile : Demand
-  InputNumber : ℕ → Demand
+-- what was read so far, each kind in the order of the reads
+pub record Read : Type 0 where
+  pub executables : List ElfFile
+  pub functions : List Function
+  pub inputs : List Input
 
--- a file that a command reads
-pub record Wanted : Type 0 where
-  pub name : List ℕ
-  pub demand : Demand
+abbrev pub nothing : Read
+nothing = record { executables = []; functions = []; inputs = [] }
 
-abbrev pub wanted : List ℕ → Demand → Wanted
-wanted name demand = record { name = name; demand = demand }
+-- as the code holds it
+abbrev pub read_in : Files → Read
+read_in f = record { executables = f.executables.items; functions = f.functions; inputs = f.inputs.items }
 
--- inputs, numbered from k on
-abbrev pub wanted_inputs : ℕ → List (List ℕ) → List Wanted
-wanted_inputs k [] = []
-wanted_inputs k (name ∷ names) = wanted name (InputNumber k) ∷ wanted_inputs (suc k) names
+-- the bytes of the first executable
+abbrev first_bytes : List ElfFile → List ℕ
+first_bytes [] = []
+first_bytes (elf ∷ elves) = elf.bytes
 
--- an executable, and inputs for it
-abbrev pub wanted_program : List ℕ → List (List ℕ) → List Wanted
-wanted_program exe inputs = wanted exe Accepted ∷ wanted_inputs 1 inputs
+abbrev pub exe_of : Read → List ℕ
+exe_of r = first_bytes r.executables
 
--- a class file, if there is one, and then others
-abbrev pub wanted_classes : Option (List ℕ) → List Wanted → List Wanted
-wanted_classes None others = others
-wanted_classes (Some name) others = wanted name ClassFile ∷ others
+-- and of the second
+abbrev second_bytes : List ElfFile → List ℕ
+second_bytes [] = []
+second_bytes (elf ∷ elves) = first_bytes elves
 
--- an executable, a class file for it, if there is one, and inputs
-abbrev pub wanted_sources : List ℕ → Option (List ℕ) → List (List ℕ) → List Wanted
-wanted_sources exe classes inputs = wanted exe Accepted ∷ wanted_classes classes (wanted_inputs 1 inputs)
+abbrev pub new_file_of : Read → List ℕ
+new_file_of r = second_bytes r.executables
 
--- these bytes are what is demanded
-abbrev pub Meets : Demand → List ℕ → Type 0
-Meets Accepted x = fault_of x ≡ None
-Meets ClassFile x = class_fault_of x ≡ None
-Meets (InputNumber k) x = input_fault_of x ≡ None
+-- the first input
+abbrev first_input : List Input → Input
+first_input [] = empty_input
+first_input (input ∷ inputs) = input
 
--- they aren't, which a file of this name is refused with
-abbrev pub Refuses : Demand → List ℕ → List ℕ → Status → Type 0
-Refuses Accepted name x answer = (f : ElfFault) × (answer ≡ status.Refused name f) × (fault_of x ≡ Some f)
-Refuses ClassFile name x answer =
-    (f : ClassError) × (answer ≡ status.BadClasses (class_line_of f)) × (class_fault_of x ≡ Some f)
-Refuses (InputNumber k) name x answer =
-    (f : InputError) × (answer ≡ status.BadInput k (line_of f)) × (input_fault_of x ≡ Some f)
+abbrev pub input_in : Read → Input
+input_in r = first_input r.inputs
+
+abbrev pub with_executable : Read → ElfFile → Read
+with_executable r elf = record { executables = r.executables ++ (elf ∷ []); functions = r.functions; inputs = r.inputs }
+
+abbrev pub with_functions : Read → List Function → Read
+with_functions r functions = record { executables = r.executables; functions = functions; inputs = r.inputs }
+
+abbrev pub with_input : Read → Input → Read
+with_input r input = record { executables = r.executables; functions = r.functions; inputs = r.inputs ++ (input ∷ []) }
+
+-- the refusal of a fault, or else what follows
+abbrev pub judged : {E : Type 0} → Option E → (E → Status) → Result Read Status → Result Read Status
+judged None refusal next = next
+judged (Some f) refusal next = Err (refusal f)
+
+-- what has been read once the file of this name holds these bytes, or the status that refuses it
+abbrev pub taken_as : Demand → List ℕ → Read → List ℕ → Result Read Status
+taken_as demand.Accepted name r x = judged (fault_of x) (λ f. status.Refused name f) (Ok (with_executable r (elf_of x)))
+taken_as demand.ClassFile name r x =
+    judged (class_fault_of x) (λ f. status.BadClasses (class_line_of f)) (Ok (with_functions r (functions_of x)))
+taken_as demand.Input name r x =
+    judged (input_fault_of x) (λ f. status.BadInput (length r.inputs + 1) (line_of f)) (Ok (with_input r (input_of x)))
+
+abbrev pub taken : Wanted → Read → List ℕ → Result Read Status
+taken w r x = taken_as w.demand w.name r x
 
 -- a read of this name may fail
 abbrev pub ReadCause : StoreCalls → List ℕ → Type 0
@@ -70,21 +92,25 @@ ReadRefusal name s (status.ReadFault file) = (file ≡ name) × ReadCause s name
 ReadRefusal name s status.OutOfMemory = Unit {0}
 ReadRefusal name s _ = ⊥
 
--- a file is refused
-abbrev pub FileRefusal : Wanted → StoreCalls → Status → Type 0
-FileRefusal w s answer = ReadRefusal w.name s answer ⊎ ((x : List ℕ) × Held s w.name x × Refuses w.demand w.name x answer)
+-- a file was read; `Holds` says which bytes a name holds
+abbrev pub IsTaken : (List ℕ → List ℕ → Type 0) → Wanted → Read → Read → Type 0
+IsTaken Holds w r next = (x : List ℕ) × Holds w.name x × (taken w r x ≡ Ok next)
 
--- a file was read, and is what is demanded
-abbrev pub FileRead : Wanted → StoreCalls → Type 0
-FileRead w s = (x : List ℕ) × Held s w.name x × Meets w.demand x
+-- these files were read in order
+abbrev pub AreTaken : (List ℕ → List ℕ → Type 0) → List Wanted → Read → Read → Type 0
+AreTaken Holds [] r last = r ≡ last
+AreTaken Holds (w ∷ ws) r last = (next : Read) × IsTaken Holds w r next × AreTaken Holds ws next last
+
+-- a file is refused
+abbrev pub FileRefusal : Wanted → Read → StoreCalls → Status → Type 0
+FileRefusal w r s answer = ReadRefusal w.name s answer ⊎ ((x : List ℕ) × Held s w.name x × (taken w r x ≡ Err answer))
 
 -- how a command that reads these files answers: by the first that is refused, and where all were read, as `End` says
-abbrev pub Course : List Wanted → StoreCalls → (Status → Type 0) → Status → Type 0
-Course [] s End answer = End answer
-Course (w ∷ ws) s End answer = FileRefusal w s answer ⊎ (FileRead w s × Course ws s End answer)
+abbrev pub Course : List Wanted → Read → StoreCalls → (Read → Status → Type 0) → Status → Type 0
+Course [] r s End answer = End r answer
+Course (w ∷ ws) r s End answer =
+    FileRefusal w r s answer ⊎ ((next : Read) × IsTaken (Held s) w r next × Course ws next s End answer)
 
--- these files hold these contents, each of them what is demanded; `Holds` says which bytes a name holds
-abbrev pub HoldAll : (List ℕ → List ℕ → Type 0) → List Wanted → List (List ℕ) → Type 0
-HoldAll Holds [] [] = Unit {0}
-HoldAll Holds (w ∷ ws) (x ∷ xs) = Holds w.name x × Meets w.demand x × HoldAll Holds ws xs
-HoldAll Holds _ _ = ⊥
+-- one of these files is refused
+abbrev pub IsUnread : List Wanted → Read → StoreCalls → Status → Type 0
+IsUnread ws r s answer = Course ws r s (λ last st. ⊥) answer

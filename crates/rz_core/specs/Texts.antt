@@ -1,4 +1,4 @@
--- The texts that the tool puts, beside reports, listings and run texts: answers and refusals, each ended by one line feed.
+-- The texts of commands that are done, beside reports, listings and run texts, and the names of faults and rooms.
 use Rattle.std.specs.Prelude.{ℕ, List, [], ◌∷◌, ◌++◌, codes, decimal}
 use Rattle.rz_num.specs.Texts.{hex_text}
 use Rattle.rz_elf.specs.declared.fault.ElfFault.{ElfFault}
@@ -7,9 +7,6 @@ use Rattle.rz_elf.specs.declared.room.Room.{Room}
 use Rattle.rz_elf.specs.declared.room.Room.TheVariants as room
 use Rattle.rz_replay.specs.declared.compare.Verdict.{Verdict}
 use Rattle.rz_replay.specs.declared.compare.Verdict.TheVariants as verdict
-use Rattle.rz_core.specs.declared.status.Status.{Status}
-use Rattle.rz_core.specs.declared.status.Status.TheVariants as status
-use Rattle.rz_core.specs.declared.status.Target.TheVariants as target
 
 -- what is said of an accepted file: how many loads it has, its entry and its first break
 abbrev pub check_text : ℕ → ℕ → ℕ → List ℕ
@@ -81,20 +78,3 @@ room_text room.Low = codes "Low"
 room_text room.Headers = codes "Headers"
 room_text room.Length = codes "Length"
 room_text room.Total = codes "Total"
-
--- the text of a refusal; the other answers have none of their own
-abbrev pub refusal_text : Status → List ℕ
-refusal_text status.Usage = codes "usage\n"
-refusal_text (status.Refused file why) = codes "refused " ++ (file ++ (32 ∷ (fault_text why ++ 10 ∷ [])))
-refusal_text (status.BadInput input line) = codes "bad input " ++ (decimal input ++ (32 ∷ (decimal line ++ 10 ∷ [])))
-refusal_text (status.BadClasses line) = codes "bad classes " ++ (decimal line ++ 10 ∷ [])
-refusal_text (status.LeftCode input address) = codes "left code " ++ (decimal input ++ (32 ∷ (hex_text address ++ 10 ∷ [])))
-refusal_text (status.RipReach address) = codes "rip reach " ++ (hex_text address ++ 10 ∷ [])
-refusal_text (status.NoRoom room) = codes "no room " ++ (room_text room ++ 10 ∷ [])
-refusal_text (status.ReadFault file) = codes "read fault " ++ (file ++ 10 ∷ [])
-refusal_text (status.WriteFault target.File) = codes "write fault file\n"
-refusal_text (status.WriteFault target.Text) = []
-refusal_text status.Ok = []
-refusal_text (status.Differ event) = []
-refusal_text (status.StubStop source) = []
-refusal_text status.OutOfMemory = []

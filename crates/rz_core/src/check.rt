@@ -1,35 +1,28 @@
 //! The command `check`: whether a file is accepted, and what it loads.
 
-ghost use Rattle.std.specs.Prelude.{◌≡◌, ◌≤◌, IfOk};
-ghost use Rattle.rz_outside.specs.StoreCalls.{store_calls};
-ghost use Rattle.rz_core.specs.Checked.{checked_text};
-ghost use Rattle.rz_core.specs.Calls.Held.{checking};
-ghost use Rattle.rz_core.specs.Calls.Carried.{IsCarriedOut};
+ghost use Rattle.std.specs.Prelude.{◌≡◌, length, IfOk};
+ghost use Rattle.std.specs.List.{All};
+ghost use Rattle.rz_elf.specs.Loaded.{IsRead};
+ghost use Rattle.rz_core.specs.Reading.{read_in};
+ghost use Rattle.rz_core.specs.Command.{IsDoneBy};
+ghost use Rattle.rz_core.specs.Checked.{checked_text, check_work};
 
-use crate::answer::Answer;
-use crate::reading::read_accepted;
+use crate::files::Files;
+use crate::outcome::Outcome;
 use crate::status::Status;
 use crate::texts;
-use crate::words::Check;
 use rz_elf::elf::Elf;
 use rz_num::{Bytes, OutOfMemory};
-use rz_outside::Store;
 use std::alloc::Global;
 
-/// `check EXE`: the text, or the refusal. No file changes.
-pub fn check<S: Store>(alloc: Global, c: &Check<'_>, store: &mut S) -> Result<Answer, Status>
-    ensures telling { S.told store.new ≡ S.told store.old }
-    ensures count { S.faults store.old ≤ S.faults store.new }
-    ensures carried { IsCarriedOut (checking c.now) (store_calls S.Store store.old store.new) result }
+/// `check EXE`.
+pub fn check(alloc: Global, files: &Files) -> Result<Outcome, OutOfMemory>
+    requires one { length files.now.executables.items ≡ 1 }
+    requires read { All IsRead files.now.executables.items }
+    ensures { IfOk result (IsDoneBy check_work 0 (read_in files.now)) }
 {
-    let elf = read_accepted(alloc, store, c.exe)?;
-    match text_of(alloc, &elf) {
-        Ok(text) => Ok(Answer {
-            status: Status::Ok,
-            text,
-        }),
-        Err(OutOfMemory) => Err(Status::OutOfMemory),
-    }
+    let text = text_of(alloc, files.exe())?;
+    Ok(Outcome::said(alloc, Status::Ok, text))
 }
 
 // What is said of a file.

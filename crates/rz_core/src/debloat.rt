@@ -1,47 +1,36 @@
-//! The command `debloat`: what it reads, makes and writes.
+//! The command `debloat`: the new file of what a level keeps of the runs on inputs.
 
-ghost use Rattle.std.specs.Prelude.{◌≡◌, ◌≤◌, IfOk, IfErr};
-ghost use Rattle.rz_outside.specs.StoreAnswers.{SameFiles};
-ghost use Rattle.rz_outside.specs.StoreCalls.{store_calls};
-ghost use Rattle.rz_core.specs.Calls.Held.{debloating, HasRuns};
-ghost use Rattle.rz_core.specs.Calls.Making.{IsMade, IsUnmade};
-ghost use Rattle.rz_core.specs.Calls.Carried.{IsCarriedOut};
+ghost use Rattle.std.specs.Prelude.{◌≡◌, ◌≤◌, length, IfOk, IfErr};
+ghost use Rattle.std.specs.List.{All};
+ghost use Rattle.rz_sys.specs.Input.{IsValid};
+ghost use Rattle.rz_elf.specs.Loaded.{IsRead};
+ghost use Rattle.rz_core.specs.Reading.{read_in};
+ghost use Rattle.rz_core.specs.Command.{IsDoneBy};
+ghost use Rattle.rz_core.specs.Debloated.{debloat_work};
+ghost use Rattle.rz_core.specs.Calls.Outcomes.{OwnRefusal};
 
-use crate::answer::Answer;
-use crate::making::{Made, make};
-use crate::reading::read_sources;
+use crate::files::Files;
+use crate::making::make;
+use crate::outcome::Outcome;
 use crate::status::Status;
-use crate::words::Debloat;
-use crate::writing::write;
-use rz_outside::Store;
+use rz_num::OutOfMemory;
+use rz_paths::Level;
 use std::alloc::Global;
 
-// Reads what the command reads, and makes the new file. No file changes.
-fn prepare<S: Store>(alloc: Global, d: &Debloat<'_>, store: &mut S) -> Result<Made, Status>
-    requires { HasRuns d.now }
-    ensures telling { S.told store.new ≡ S.told store.old }
-    ensures kept { SameFiles (S.files store.old) (S.files store.new) }
-    ensures count { S.faults store.old ≤ S.faults store.new }
-    ensures made { IfOk result
-        (IsMade (debloating d.now) (store_calls S.Store store.old store.new)) }
-    ensures cause { IfErr result
-        (IsUnmade (debloating d.now) (store_calls S.Store store.old store.new)) }
+/// `debloat EXE CLASSES LEVEL LIMIT OUT INPUT..`, with the first `limit` steps of each run.
+pub fn debloat(alloc: Global, files: &Files, level: Level, limit: u64) -> Result<Outcome, Status>
+    requires one { length files.now.executables.items ≡ 1 }
+    requires read { All IsRead files.now.executables.items }
+    requires runs { 1 ≤ length files.now.inputs.items }
+    requires valid { All IsValid files.now.inputs.items }
+    requires some { 1 ≤ limit }
+    ensures done { IfOk result (IsDoneBy (debloat_work level limit) 1 (read_in files.now)) }
+    ensures refused { IfErr result (OwnRefusal (debloat_work level limit) (read_in files.now)) }
 {
-    let sources = read_sources(alloc, store, d.exe, d.classes, d.inputs)?;
-    make(alloc, &sources, d.level, d.limit)
-}
-
-/// `debloat EXE CLASSES LEVEL LIMIT OUT INPUT..`: the report, or the refusal.
-pub fn debloat<S: Store>(alloc: Global, d: &Debloat<'_>, store: &mut S) -> Result<Answer, Status>
-    requires { HasRuns d.now }
-    ensures telling { S.told store.new ≡ S.told store.old }
-    ensures count { S.faults store.old ≤ S.faults store.new }
-    ensures carried { IsCarriedOut (debloating d.now) (store_calls S.Store store.old store.new) result }
-{
-    let Made { bytes, report } = prepare(alloc, d, store)?;
-    write(alloc, store, d.out, &bytes)?;
-    Ok(Answer {
-        status: Status::Ok,
-        text: report,
-    })
+    let inputs = files.inputs.as_slice();
+    let made = make(alloc, files.exe(), &files.functions, inputs, level, limit)?;
+    match Outcome::wrote(alloc, made) {
+        Ok(outcome) => Ok(outcome),
+        Err(OutOfMemory) => Err(Status::OutOfMemory),
+    }
 }

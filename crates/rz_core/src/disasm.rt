@@ -1,32 +1,26 @@
 //! The command `disasm`: the instructions of a file from an address on.
 
-ghost use Rattle.std.specs.Prelude.{◌≡◌, ◌≤◌};
-ghost use Rattle.rz_outside.specs.StoreCalls.{store_calls};
-ghost use Rattle.rz_core.specs.Calls.Held.{disassembling};
-ghost use Rattle.rz_core.specs.Calls.Carried.{IsCarriedOut};
+ghost use Rattle.std.specs.Prelude.{◌≡◌, length, IfOk};
+ghost use Rattle.std.specs.List.{All};
+ghost use Rattle.rz_elf.specs.Loaded.{IsRead};
+ghost use Rattle.rz_core.specs.Reading.{read_in};
+ghost use Rattle.rz_core.specs.Command.{IsDoneBy};
+ghost use Rattle.rz_core.specs.Listed.{disasm_work};
 
-use crate::answer::Answer;
-use crate::reading::read_accepted;
+use crate::decoding::Decoding;
+use crate::files::Files;
+use crate::outcome::Outcome;
 use crate::status::Status;
-use crate::words::Disasm;
 use rz_listing::listing;
 use rz_num::OutOfMemory;
-use rz_outside::Store;
-use rz_table::Profile1;
 use std::alloc::Global;
 
-/// `disasm EXE ADDR COUNT`: the listing, or the refusal. No file changes.
-pub fn disasm<S: Store>(alloc: Global, d: &Disasm<'_>, store: &mut S) -> Result<Answer, Status>
-    ensures telling { S.told store.new ≡ S.told store.old }
-    ensures count { S.faults store.old ≤ S.faults store.new }
-    ensures carried { IsCarriedOut (disassembling d.now) (store_calls S.Store store.old store.new) result }
+/// `disasm EXE ADDR COUNT`: at most so many lines.
+pub fn disasm(alloc: Global, files: &Files, at: u64, count: u32) -> Result<Outcome, OutOfMemory>
+    requires one { length files.now.executables.items ≡ 1 }
+    requires read { All IsRead files.now.executables.items }
+    ensures { IfOk result (IsDoneBy (disasm_work at count) 0 (read_in files.now)) }
 {
-    let elf = read_accepted(alloc, store, d.exe)?;
-    match listing::<Profile1>(alloc, &elf, d.at, d.count) {
-        Ok(text) => Ok(Answer {
-            status: Status::Ok,
-            text,
-        }),
-        Err(OutOfMemory) => Err(Status::OutOfMemory),
-    }
+    let text = listing::<Decoding>(alloc, files.exe(), at, count)?;
+    Ok(Outcome::said(alloc, Status::Ok, text))
 }

@@ -1,38 +1,26 @@
 //! The command `gen`: a generated program.
 
 ghost use Rattle.std.specs.Prelude.{◌≡◌, ◌≤◌, length, IfOk};
-ghost use Rattle.rz_outside.specs.StoreCalls.{store_calls};
 ghost use Rattle.rz_gen.specs.Generated.{generated as generated_file};
 ghost use Rattle.rz_core.specs.Texts.{generated_text};
-ghost use Rattle.rz_core.specs.Calls.Held.{generating, HasFunctions};
-ghost use Rattle.rz_core.specs.Calls.Carried.{IsCarriedOut};
+ghost use Rattle.rz_core.specs.Reading.{Read};
+ghost use Rattle.rz_core.specs.Command.{IsDoneBy};
+ghost use Rattle.rz_core.specs.Generated.{generate_work};
 
-use crate::answer::Answer;
 use crate::making::Made;
-use crate::status::Status;
+use crate::outcome::Outcome;
 use crate::texts;
-use crate::words::Generate;
-use crate::writing::write;
 use rz_gen::gen_file;
 use rz_num::{Bytes, OutOfMemory};
-use rz_outside::Store;
 use std::alloc::Global;
 
-/// `gen N OUT`: the length of the generated file, or the refusal.
-pub fn generate<S: Store>(alloc: Global, g: &Generate<'_>, store: &mut S) -> Result<Answer, Status>
-    requires { HasFunctions g.now }
-    ensures telling { S.told store.new ≡ S.told store.old }
-    ensures count { S.faults store.old ≤ S.faults store.new }
-    ensures carried { IsCarriedOut (generating g.now) (store_calls S.Store store.old store.new) result }
+/// `gen N OUT`, of so many functions.
+pub fn generate(alloc: Global, count: u32) -> Result<Outcome, OutOfMemory>
+    requires { (1 ≤ count) × (count ≤ 4000) }
+    ensures { IfOk result (λ o. (r : Read) → IsDoneBy (generate_work count) 1 r o) }
 {
-    let Ok(Made { bytes, report }) = generated(alloc, g.count) else {
-        return Err(Status::OutOfMemory);
-    };
-    write(alloc, store, g.out, &bytes)?;
-    Ok(Answer {
-        status: Status::Ok,
-        text: report,
-    })
+    let made = generated(alloc, count)?;
+    Outcome::wrote(alloc, made)
 }
 
 // The generated file, and what is said of it.

@@ -1,20 +1,26 @@
 //! The top call: a command line over a store of files and a sink of text.
 #![tactic(auto)]
 
-pub mod answer;
 mod check;
 mod debloat;
+mod decoding;
 mod demo;
 mod disasm;
+mod driver;
+pub mod files;
+pub mod forms;
 mod generate;
 pub mod making;
-pub mod reading;
+pub mod outcome;
+mod perform;
+pub mod plan;
+mod reading;
 mod replay;
 mod report;
 mod run;
 pub mod status;
-pub mod texts;
+mod texts;
 pub mod tool;
 mod trace;
-pub mod words;
+mod words;
 mod writing;

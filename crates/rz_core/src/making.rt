@@ -5,24 +5,21 @@ ghost use Rattle.std.specs.List.{All};
 ghost use Rattle.rz_elf.specs.Elf.{image_of};
 ghost use Rattle.rz_machine.specs.Keeps.{Keeps};
 ghost use Rattle.rz_paths.specs.Levels.{IsWithin, Keeps as KeepsAt};
-ghost use Rattle.rz_paths.specs.Program.{program_of};
-ghost use Rattle.rz_table.specs.declared.profile_rows.TheConstants.{PROFILE};
 ghost use Rattle.rz_machine.specs.LeftCode.{StaysInCode};
 ghost use Rattle.rz_machine.specs.Nodes.{code_in, StandsIn};
-ghost use Rattle.rz_rewrite.specs.Rewritten.{CanRewrite};
+ghost use Rattle.rz_rewrite.specs.Rewritten.{CanRewrite, IsPaced};
 ghost use Rattle.rz_machine.specs.Traced.{kept_in, with_run};
 ghost use Rattle.rz_sys.specs.Input.{IsValid};
 ghost use Rattle.rz_machine.specs.WrittenFile.{Inert};
-ghost use Rattle.rz_core.specs.Decoding.{decode_profile};
-ghost use Rattle.rz_core.specs.Debloated.{AllStay, IsDebloated, IsReport, recorded_of, traced};
+ghost use Rattle.rz_core.specs.Decoding.{decode_profile, profile_program};
+ghost use Rattle.rz_core.specs.Debloated.{AllStay, IsDebloated, IsReport, recorded_of, sources, traced};
 ghost use Rattle.rz_report.specs.Report.{debloat_report_of};
 ghost use Rattle.rz_rewrite.specs.Refusals.{IsRefusal, no_room_for, rip_reach_of};
 ghost use Rattle.rz_trace.specs.Printed.{printed};
 ghost use Rattle.rz_core.specs.Recorded.{trace_report};
-ghost use Rattle.rz_core.specs.Calls.Programs.{held_sources};
 ghost use Rattle.rz_core.specs.Calls.Making.{status_of, MakeRefusal, RunRefusal, RunsRefusal, TraceRefusal as TraceRefusalOf};
 
-use crate::reading::Sources;
+use crate::decoding::Decoding;
 use crate::status::Status;
 use crate::texts;
 use rz_aset::Record;
@@ -34,7 +31,6 @@ use rz_report::debloat::debloat_report;
 use rz_rewrite::refusal::Refusal;
 use rz_rewrite::rewrite::{New, rewrite};
 use rz_sys::input::Input;
-use rz_table::Profile1;
 use rz_trace::{TraceRefusal, print_trace, trace};
 use std::alloc::Global;
 
@@ -45,21 +41,31 @@ pub struct Made {
     pub report: Bytes,
 }
 
-/// Debloats a file for what a level keeps of its runs of `limit` steps on these inputs, or says why there is no new
-/// file: a run left the code, or an operand is out of reach, or there is no room, or no memory.
-pub fn make(alloc: Global, sources: &Sources, level: Level, limit: u64) -> Result<Made, Status>
-    requires valid { All IsValid sources.now.inputs.items }
-    requires runs { 1 ≤ length sources.now.inputs.items }
+/// Debloats a file with these listed functions for what a level keeps of its runs of `limit` steps on these inputs, or
+/// says why there is no new file: a run left the code, or an operand is out of reach, or there is no room, or no memory.
+pub fn make(
+    alloc: Global,
+    elf: &Elf,
+    classes: &Classes,
+    inputs: &[Input],
+    level: Level,
+    limit: u64,
+) -> Result<Made, Status>
+    requires valid { All IsValid inputs.now }
+    requires runs { 1 ≤ length inputs.now }
     requires some { 1 ≤ limit }
-    ensures made { IfOk result (λ m. IsDebloated level limit (held_sources sources.now) m.bytes) }
-    ensures report { IfOk result (λ m. IsReport level limit (held_sources sources.now) m.report) }
-    ensures err { IfErr result (MakeRefusal level limit (held_sources sources.now)) }
+    ensures made { IfOk result (λ m.
+        IsDebloated level limit (sources elf.now.bytes classes.now inputs.now) m.bytes) }
+    ensures report { IfOk result (λ m.
+        IsReport level limit (sources elf.now.bytes classes.now inputs.now) m.report) }
+    ensures err { IfErr result
+        (MakeRefusal level limit (sources elf.now.bytes classes.now inputs.now)) }
 {
-    let recorded = record_runs(alloc, &sources.elf, sources.inputs.as_slice(), limit)?;
-    let Ok(kept) = keep(alloc, &sources.elf, &sources.classes, &recorded, level) else {
+    let recorded = record_runs(alloc, elf, inputs, limit)?;
+    let Ok(kept) = keep(alloc, elf, classes, &recorded, level) else {
         return Err(Status::OutOfMemory);
     };
-    match write_new(alloc, &sources.elf, &kept) {
+    match write_new(alloc, elf, &kept) {
         Ok(made) => Ok(made),
         Err(why) => Err(refused(why)),
     }
@@ -75,12 +81,12 @@ fn keep(
 ) -> Result<Record, OutOfMemory>
     requires recorded { CanRewrite decode_profile (image_of elf.now.bytes) (kept_in recorded.now) }
     ensures keeps { IfOk result
-        (KeepsAt level (program_of PROFILE elf.now.bytes) classes.now recorded.now) }
+        (KeepsAt level (profile_program elf.now.bytes) classes.now recorded.now) }
     ensures within { IfOk result (IsWithin recorded.now) }
     ensures kept { IfOk result (λ kept.
         CanRewrite decode_profile (image_of elf.now.bytes) (kept_in kept)) }
 {
-    expand::<Profile1>(alloc, elf, recorded, classes, level)
+    expand::<Decoding>(alloc, elf, recorded, classes, level)
 }
 
 // The answer to a file that can't be rewritten.
@@ -167,7 +173,7 @@ fn record_run(
     ensures err { IfErr result (RunRefusal number limit elf.now.bytes input.now) }
 {
     are_bytes(elf.bytes.as_slice());
-    match trace::<Profile1>(alloc, elf, input, limit, kept) {
+    match trace::<Decoding>(alloc, elf, input, limit, kept) {
         Ok(()) => Ok(()),
         Err(TraceRefusal::LeftCode(address)) => Err(Status::LeftCode {
             input: number,
@@ -181,6 +187,7 @@ fn record_run(
 fn write_new(alloc: Global, elf: &Elf, kept: &Record) -> Result<Made, Refusal>
     requires plausible { CanRewrite decode_profile (image_of elf.now.bytes) (kept_in kept.now) }
     ensures keeps { IfOk result (λ m. Keeps decode_profile elf.now.bytes m.bytes (kept_in kept.now)) }
+    ensures paced { IfOk result (λ m. IsPaced decode_profile elf.now.bytes m.bytes (kept_in kept.now)) }
     ensures inert { IfOk result (λ m. Inert decode_profile elf.now.bytes m.bytes (kept_in kept.now)) }
     ensures report { IfOk result (λ m. m.report
         ≡ debloat_report_of decode_profile (image_of elf.now.bytes) (kept_in kept.now)) }
@@ -188,7 +195,7 @@ fn write_new(alloc: Global, elf: &Elf, kept: &Record) -> Result<Made, Refusal>
     ensures room { OnOk result (no_room_for decode_profile elf.now.bytes (kept_in kept.now) ≡ None) }
     ensures refused { IfErr result (IsRefusal decode_profile elf.now.bytes (kept_in kept.now)) }
 {
-    let New { bytes, .. } = rewrite::<Profile1>(alloc, elf, kept)?;
-    let report = debloat_report::<Profile1>(alloc, elf, kept)?;
+    let New { bytes, .. } = rewrite::<Decoding>(alloc, elf, kept)?;
+    let report = debloat_report::<Decoding>(alloc, elf, kept)?;
     Ok(Made { bytes, report })
 }

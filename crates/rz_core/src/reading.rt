@@ -1,51 +1,36 @@
-//! Reads the files of the store: executables, class files and inputs.
+//! Reads the files of a plan.
 
-ghost use Rattle.std.specs.Prelude.{◌≡◌, ◌≤◌, ◌∷◌, [], None, Some, IfOk, IfErr, length, option_copied};
+ghost use Rattle.std.specs.Prelude.{◌≡◌, ◌≤◌, None, Ok, Err, IfOk, IfErr, OnOk};
 ghost use Rattle.std.specs.List.{All};
 ghost use Rattle.rz_outside.specs.StoreAnswers.{SameFiles, ReadsFirst};
 ghost use Rattle.rz_outside.specs.StoreCalls.{store_calls, Held};
 ghost use Rattle.rz_elf.specs.Elf.{fault_of};
+ghost use Rattle.rz_elf.specs.Loaded.{elf_of};
 ghost use Rattle.rz_sys.specs.Input.{IsValid};
-ghost use Rattle.rz_core.specs.Inputs.{HoldsInput};
-ghost use Rattle.rz_core.specs.Classes.{HoldsClasses};
-ghost use Rattle.rz_core.specs.Reading.{Accepted, ClassFile, InputNumber, FileRefusal, ReadRefusal, wanted, wanted_classes, wanted_inputs, wanted_program, wanted_sources};
-ghost use Rattle.rz_core.specs.Calls.Carried.{IsUnread};
-ghost use Rattle.rz_core.specs.Calls.Programs.{HoldsInputs, HoldsProgram, HoldsSources, held_sources, class_refusal as class_refusal_of, input_refusal as input_refusal_of};
+ghost use Rattle.rz_core.specs.Reading.{read_in, nothing, taken, taken_as, IsTaken, AreTaken, ReadRefusal, FileRefusal, IsUnread};
+ghost use Rattle.rz_core.specs.Calls.Taking.{IsRefusedFor, Untaken, most_of, class_refusal as class_refusal_of, input_refusal as input_refusal_of};
+ghost use Rattle.rz_core.specs.declared.plan.Demand.TheVariants.{Accepted, ClassFile, Input};
 
+use crate::files::Files;
+use crate::plan::{Demand, Wanted};
 use crate::status::Status;
-use rz_classes::{ClassError, Classes};
+use rz_classes::ClassError;
 use rz_elf::elf::Elf;
 use rz_elf::fault::ElfError;
 use rz_elf::read::read_elf;
 use rz_input::InputError;
 use rz_num::{Bytes, Text};
 use rz_outside::{ReadErr, Store};
-use rz_sys::input::Input;
 use std::alloc::Global;
 
-/// How many bytes of an executable are asked for: one more than an accepted file has.
+// How many bytes of an executable are asked for: one more than an accepted file has.
 const EXECUTABLE_MAX: u64 = 67_108_865;
 
-/// How many bytes of another file are asked for: one more than a text may have.
+// How many bytes of another file are asked for: one more than a text may have.
 const TEXT_MAX: u64 = 16_777_217;
 
-/// An accepted file, and an input for it.
-#[derive(Drop)]
-pub struct Program {
-    pub elf: Elf,
-    pub input: Input,
-}
-
-/// What a debloating starts from: an accepted file, its listed functions, and inputs for it.
-#[derive(Drop)]
-pub struct Sources {
-    pub elf: Elf,
-    pub classes: Classes,
-    pub inputs: Vec<Input>,
-}
-
-/// The first `max` bytes of the file of a name, or the refusal.
-pub fn read<S: Store>(alloc: Global, store: &mut S, name: &Text, max: u64) -> Result<Bytes, Status>
+// The first `max` bytes of the file of a name, or the refusal.
+fn read<S: Store>(alloc: Global, store: &mut S, name: &Text, max: u64) -> Result<Bytes, Status>
     ensures telling { S.told store.new ≡ S.told store.old }
     ensures kept { SameFiles (S.files store.old) (S.files store.new) }
     ensures count { S.faults store.old ≤ S.faults store.new }
@@ -62,21 +47,24 @@ pub fn read<S: Store>(alloc: Global, store: &mut S, name: &Text, max: u64) -> Re
     }
 }
 
-/// The file of a name, where it is accepted, or the refusal.
-pub fn read_accepted<S: Store>(alloc: Global, store: &mut S, name: &Text) -> Result<Elf, Status>
-    ensures telling { S.told store.new ≡ S.told store.old }
-    ensures kept { SameFiles (S.files store.old) (S.files store.new) }
-    ensures count { S.faults store.old ≤ S.faults store.new }
-    ensures accepted { IfOk result (λ elf. fault_of elf.bytes ≡ None) }
-    ensures read { IfOk result (λ elf.
-        Held (store_calls S.Store store.old store.new) name.now elf.bytes) }
-    ensures cause { IfErr result
-        (FileRefusal (wanted name.now Accepted) (store_calls S.Store store.old store.new)) }
+// How many bytes of a file are asked for.
+fn most(demand: Demand) -> u64
+    ensures { result ≡ most_of demand }
+{
+    match demand {
+        Demand::Accepted => EXECUTABLE_MAX,
+        Demand::ClassFile | Demand::Input => TEXT_MAX,
+    }
+}
+
+// An accepted file of these bytes, or the refusal.
+fn accept(alloc: Global, name: &Text, bytes: Bytes) -> Result<Elf, Status>
+    ensures accepted { IfOk result (λ elf. (fault_of bytes ≡ None) × (elf ≡ elf_of bytes)) }
+    ensures refused { IfErr result (IsRefusedFor name.now bytes) }
 {
     let Ok(file) = Text::from_slice(alloc, name.as_slice()) else {
         return Err(Status::OutOfMemory);
     };
-    let bytes = read(alloc, store, name, EXECUTABLE_MAX)?;
     match read_elf(alloc, bytes) {
         Ok(elf) => Ok(elf),
         Err(ElfError::Fault(fault)) => Err(Status::Refused { file, fault }),
@@ -84,20 +72,15 @@ pub fn read_accepted<S: Store>(alloc: Global, store: &mut S, name: &Text) -> Res
     }
 }
 
-// The functions that the class file of a name lists, or the refusal.
-fn read_class_file<S: Store>(alloc: Global, store: &mut S, name: &Text) -> Result<Classes, Status>
-    ensures telling { S.told store.new ≡ S.told store.old }
-    ensures kept { SameFiles (S.files store.old) (S.files store.new) }
-    ensures count { S.faults store.old ≤ S.faults store.new }
-    ensures read { IfOk result
-        (HoldsClasses (Held (store_calls S.Store store.old store.new)) (Some name.now)) }
-    ensures cause { IfErr result
-        (FileRefusal (wanted name.now ClassFile) (store_calls S.Store store.old store.new)) }
+fn take_accepted(alloc: Global, name: &Text, bytes: Bytes, files: &mut Files) -> Result<(), Status>
+    ensures ok { OnOk result (taken_as Accepted name.now (read_in files.old) bytes ≡ Ok (read_in files.new)) }
+    ensures valid { All IsValid files.old.inputs.items → All IsValid files.new.inputs.items }
+    ensures err { IfErr result (Untaken (taken_as Accepted name.now (read_in files.old) bytes)) }
 {
-    let bytes = read(alloc, store, name, TEXT_MAX)?;
-    match rz_classes::read_classes(alloc, &bytes) {
-        Ok(classes) => Ok(classes),
-        Err(error) => Err(class_refusal(error)),
+    let elf = accept(alloc, name, bytes)?;
+    match files.executables.push(elf) {
+        Ok(()) => Ok(()),
+        Err(_) => Err(Status::OutOfMemory),
     }
 }
 
@@ -111,46 +94,18 @@ fn class_refusal(error: ClassError) -> Status
     }
 }
 
-/// The functions that a class file lists, or the refusal; none where there is no such file.
-pub fn read_classes<S: Store>(
-    alloc: Global,
-    store: &mut S,
-    name: Option<&Text>,
-) -> Result<Classes, Status>
-    ensures telling { S.told store.new ≡ S.told store.old }
-    ensures kept { SameFiles (S.files store.old) (S.files store.new) }
-    ensures count { S.faults store.old ≤ S.faults store.new }
-    ensures read { IfOk result
-        (HoldsClasses (Held (store_calls S.Store store.old store.new)) (option_copied name.entry)) }
-    ensures cause { IfErr result
-        (IsUnread (wanted_classes (option_copied name.entry) []) (store_calls S.Store store.old store.new)) }
+fn take_classes(alloc: Global, name: &Text, bytes: Bytes, files: &mut Files) -> Result<(), Status>
+    ensures ok { OnOk result
+        (taken_as ClassFile name.now (read_in files.old) bytes ≡ Ok (read_in files.new)) }
+    ensures valid { All IsValid files.old.inputs.items → All IsValid files.new.inputs.items }
+    ensures err { IfErr result (Untaken (taken_as ClassFile name.now (read_in files.old) bytes)) }
 {
-    match name {
-        Some(name) => read_class_file(alloc, store, name),
-        None => Ok(Classes::none(alloc)),
-    }
-}
-
-/// The input that the file of a name holds, or the refusal, with the number of the input, from 1.
-pub fn read_input<S: Store>(
-    alloc: Global,
-    store: &mut S,
-    name: &Text,
-    number: u64,
-) -> Result<Input, Status>
-    ensures telling { S.told store.new ≡ S.told store.old }
-    ensures kept { SameFiles (S.files store.old) (S.files store.new) }
-    ensures count { S.faults store.old ≤ S.faults store.new }
-    ensures valid { IfOk result IsValid }
-    ensures read { IfOk result
-        (HoldsInput (Held (store_calls S.Store store.old store.new)) name.now) }
-    ensures cause { IfErr result
-        (FileRefusal (wanted name.now (InputNumber number)) (store_calls S.Store store.old store.new)) }
-{
-    let bytes = read(alloc, store, name, TEXT_MAX)?;
-    match rz_input::read_input(alloc, &bytes) {
-        Ok(input) => Ok(input),
-        Err(error) => Err(input_refusal(error, number)),
+    match rz_classes::read_classes(alloc, &bytes) {
+        Ok(classes) => {
+            files.functions = classes;
+            Ok(())
+        }
+        Err(error) => Err(class_refusal(error)),
     }
 }
 
@@ -167,76 +122,67 @@ fn input_refusal(error: InputError, number: u64) -> Status
     }
 }
 
-/// The inputs that the files of these names hold, read in order, or the refusal of the first that is refused.
-pub fn read_inputs<S: Store>(
-    alloc: Global,
-    store: &mut S,
-    names: &[Text],
-) -> Result<Vec<Input>, Status>
-    ensures telling { S.told store.new ≡ S.told store.old }
-    ensures kept { SameFiles (S.files store.old) (S.files store.new) }
-    ensures count { S.faults store.old ≤ S.faults store.new }
-    ensures valid { IfOk result (λ inputs. All IsValid inputs.items) }
-    ensures read { IfOk result (λ inputs.
-        HoldsInputs (Held (store_calls S.Store store.old store.new)) 1 names.now inputs.items) }
-    ensures cause { IfErr result
-        (IsUnread (wanted_inputs 1 names.now) (store_calls S.Store store.old store.new)) }
+fn take_input(alloc: Global, name: &Text, bytes: Bytes, files: &mut Files) -> Result<(), Status>
+    ensures ok { OnOk result (taken_as Input name.now (read_in files.old) bytes ≡ Ok (read_in files.new)) }
+    ensures valid { All IsValid files.old.inputs.items → All IsValid files.new.inputs.items }
+    ensures err { IfErr result (Untaken (taken_as Input name.now (read_in files.old) bytes)) }
 {
-    let mut inputs = Vec::new(alloc);
-    for (k, name) in names.iter().enumerate() {
-        let input = read_input(alloc, store, name, k as u64 + 1)?;
-        let Ok(()) = inputs.push(input) else {
-            return Err(Status::OutOfMemory);
-        };
+    match rz_input::read_input(alloc, &bytes) {
+        Ok(input) => match files.inputs.push(input) {
+            Ok(()) => Ok(()),
+            Err(_) => Err(Status::OutOfMemory),
+        },
+        Err(error) => Err(input_refusal(error, files.inputs.len() as u64 + 1)),
     }
-    Ok(inputs)
 }
 
-/// An executable and its one input, or the refusal of the first that is refused.
-pub fn read_program<S: Store>(
+// Takes the bytes of a file for what it has to be, or gives the refusal.
+fn take(alloc: Global, wanted: &Wanted, bytes: Bytes, files: &mut Files) -> Result<(), Status>
+    ensures ok { OnOk result (taken wanted.now (read_in files.old) bytes ≡ Ok (read_in files.new)) }
+    ensures valid { All IsValid files.old.inputs.items → All IsValid files.new.inputs.items }
+    ensures err { IfErr result (Untaken (taken wanted.now (read_in files.old) bytes)) }
+{
+    match wanted.demand {
+        Demand::Accepted => take_accepted(alloc, &wanted.name, bytes, files),
+        Demand::ClassFile => take_classes(alloc, &wanted.name, bytes, files),
+        Demand::Input => take_input(alloc, &wanted.name, bytes, files),
+    }
+}
+
+// Reads a file, and takes it for what it has to be, or gives the refusal.
+fn read_one<S: Store>(
     alloc: Global,
     store: &mut S,
-    exe: &Text,
-    input: &Text,
-) -> Result<Program, Status>
+    wanted: &Wanted,
+    files: &mut Files,
+) -> Result<(), Status>
     ensures telling { S.told store.new ≡ S.told store.old }
     ensures kept { SameFiles (S.files store.old) (S.files store.new) }
     ensures count { S.faults store.old ≤ S.faults store.new }
-    ensures valid { IfOk result (λ p. IsValid p.input) }
-    ensures read { IfOk result
-        (HoldsProgram (Held (store_calls S.Store store.old store.new)) exe.now input.now) }
+    ensures valid { All IsValid files.old.inputs.items → All IsValid files.new.inputs.items }
+    ensures read { OnOk result (IsTaken (Held (store_calls S.Store store.old store.new))
+        wanted.now (read_in files.old) (read_in files.new)) }
     ensures cause { IfErr result
-        (IsUnread (wanted_program exe.now (input.now ∷ [])) (store_calls S.Store store.old store.new)) }
+        (FileRefusal wanted.now (read_in files.old) (store_calls S.Store store.old store.new)) }
 {
-    let elf = read_accepted(alloc, store, exe)?;
-    let input = read_input(alloc, store, input, 1)?;
-    Ok(Program { elf, input })
+    let bytes = read(alloc, store, &wanted.name, most(wanted.demand))?;
+    take(alloc, wanted, bytes, files)
 }
 
-/// An executable, its listed functions and its inputs, or the refusal of the first file that is refused.
-pub fn read_sources<S: Store>(
-    alloc: Global,
-    store: &mut S,
-    exe: &Text,
-    classes: Option<&Text>,
-    inputs: &[Text],
-) -> Result<Sources, Status>
+/// Reads the files of a plan in order, or gives the refusal of the first that is refused.
+pub fn read_files<S: Store>(alloc: Global, store: &mut S, reads: &[Wanted]) -> Result<Files, Status>
     ensures telling { S.told store.new ≡ S.told store.old }
     ensures kept { SameFiles (S.files store.old) (S.files store.new) }
     ensures count { S.faults store.old ≤ S.faults store.new }
-    ensures valid { IfOk result (λ s. All IsValid s.inputs.items) }
-    ensures many { IfOk result (λ s. length s.inputs.items ≡ length inputs.now) }
-    ensures read { IfOk result (λ s. HoldsSources (Held (store_calls S.Store store.old store.new))
-        exe.now (option_copied classes.entry) inputs.now (held_sources s)) }
-    ensures cause { IfErr result (IsUnread
-        (wanted_sources exe.now (option_copied classes.entry) inputs.now) (store_calls S.Store store.old store.new)) }
+    ensures valid { IfOk result (λ files. All IsValid files.inputs.items) }
+    ensures read { IfOk result (λ files. AreTaken (Held (store_calls S.Store store.old store.new))
+        reads.now nothing (read_in files)) }
+    ensures cause { IfErr result
+        (IsUnread reads.now nothing (store_calls S.Store store.old store.new)) }
 {
-    let file = read_accepted(alloc, store, exe)?;
-    let functions = read_classes(alloc, store, classes)?;
-    let inputs = read_inputs(alloc, store, inputs)?;
-    Ok(Sources {
-        elf: file,
-        classes: functions,
-        inputs,
-    })
+    let mut files = Files::new(alloc);
+    for wanted in reads.iter() {
+        read_one(alloc, store, wanted, &mut files)?;
+    }
+    Ok(files)
 }

@@ -1,41 +1,36 @@
 //! The command `replay`: whether a new file does what an old one does, on an input.
 
-ghost use Rattle.std.specs.Prelude.{◌≡◌, ◌≤◌, IfOk};
-ghost use Rattle.rz_outside.specs.StoreCalls.{store_calls};
+ghost use Rattle.std.specs.Prelude.{◌≡◌, ◌≤◌, length, IfOk};
+ghost use Rattle.std.specs.List.{All};
 ghost use Rattle.rz_sys.specs.Input.{IsValid};
 ghost use Rattle.rz_elf.specs.Loaded.{IsRead};
-ghost use Rattle.rz_core.specs.Replayed.{status_by};
-ghost use Rattle.rz_core.specs.Calls.Held.{replaying, HasBound};
-ghost use Rattle.rz_core.specs.Calls.Carried.{IsCarriedOut};
+ghost use Rattle.rz_core.specs.Reading.{read_in};
+ghost use Rattle.rz_core.specs.Command.{IsDoneBy};
+ghost use Rattle.rz_core.specs.Replayed.{status_by, replay_work};
 ghost use Rattle.rz_core.specs.Calls.Replaying.{IsReplayed};
 
-use crate::answer::Answer;
-use crate::reading::{Program, read_accepted, read_program};
+use crate::decoding::Decoding;
+use crate::files::Files;
+use crate::outcome::Outcome;
 use crate::status::Status;
 use crate::texts;
-use crate::words::Replay;
 use rz_elf::elf::Elf;
 use rz_num::{Bytes, OutOfMemory};
-use rz_outside::Store;
 use rz_replay::compare::{Verdict, compare};
 use rz_sys::input::Input;
-use rz_table::Profile1;
 use std::alloc::Global;
 
-/// `replay EXE NEW LIMIT INPUT`: the verdict on NEW, or the refusal. The status is `Differ` where it does something else, and
-/// `StubStop` where its run ended at a stub. No file changes.
-pub fn replay<S: Store>(alloc: Global, r: &Replay<'_>, store: &mut S) -> Result<Answer, Status>
-    requires { HasBound r.now }
-    ensures telling { S.told store.new ≡ S.told store.old }
-    ensures count { S.faults store.old ≤ S.faults store.new }
-    ensures carried { IsCarriedOut (replaying r.now) (store_calls S.Store store.old store.new) result }
+/// `replay EXE NEW LIMIT INPUT`, with EXE run for at most `limit` steps. The status is `Differ` where NEW does something
+/// else, and `StubStop` where its run ended at a stub.
+pub fn replay(alloc: Global, files: &Files, limit: u64) -> Result<Outcome, OutOfMemory>
+    requires two { length files.now.executables.items ≡ 2 }
+    requires read { All IsRead files.now.executables.items }
+    requires some { 1 ≤ length files.now.inputs.items }
+    requires valid { All IsValid files.now.inputs.items }
+    requires limit { limit ≤ 1000000000 }
+    ensures { IfOk result (IsDoneBy (replay_work limit) 0 (read_in files.now)) }
 {
-    let old = read_accepted(alloc, store, r.exe)?;
-    let Program { elf, input } = read_program(alloc, store, r.new_file, r.input)?;
-    match replay_on(alloc, &old, &elf, &input, r.limit) {
-        Ok(answer) => Ok(answer),
-        Err(OutOfMemory) => Err(Status::OutOfMemory),
-    }
+    replay_on(alloc, files.exe(), files.new_file(), files.input(), limit)
 }
 
 // Compares two files on an input, the old one run for at most `limit` steps.
@@ -45,20 +40,17 @@ fn replay_on(
     new: &Elf,
     input: &Input,
     limit: u64,
-) -> Result<Answer, OutOfMemory>
+) -> Result<Outcome, OutOfMemory>
     requires old { IsRead old.now }
     requires new { IsRead new.now }
     requires valid { IsValid input.now }
     requires limit { limit ≤ 1000000000 }
     ensures { IfOk result (IsReplayed limit old.now.bytes new.now.bytes input.now) }
 {
-    let verdict = compare::<Profile1>(alloc, old, new, limit, input)?;
+    let verdict = compare::<Decoding>(alloc, old, new, limit, input)?;
     let text = texts::verdict(alloc, verdict)?;
     let bytes = Bytes::from_slice(alloc, text.as_bytes())?;
-    Ok(Answer {
-        status: status_of(verdict),
-        text: bytes,
-    })
+    Ok(Outcome::said(alloc, status_of(verdict), bytes))
 }
 
 // The status that a verdict gives.

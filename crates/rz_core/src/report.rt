@@ -1,32 +1,35 @@
 //! The command `report`: an old and a new file measured.
 
-ghost use Rattle.std.specs.Prelude.{◌≡◌, ◌≤◌};
-ghost use Rattle.rz_outside.specs.StoreCalls.{store_calls};
-ghost use Rattle.rz_core.specs.Calls.Held.{reporting};
-ghost use Rattle.rz_core.specs.Calls.Carried.{IsCarriedOut};
+ghost use Rattle.std.specs.Prelude.{◌≡◌, length, IfOk};
+ghost use Rattle.std.specs.List.{All};
+ghost use Rattle.rz_elf.specs.Loaded.{IsRead};
+ghost use Rattle.rz_core.specs.Reading.{read_in};
+ghost use Rattle.rz_core.specs.Command.{IsDoneBy};
+ghost use Rattle.rz_core.specs.Paired.{paired_text, report_work};
 
-use crate::answer::Answer;
-use crate::reading::read_accepted;
+use crate::files::Files;
+use crate::outcome::Outcome;
 use crate::status::Status;
-use crate::words::Report;
-use rz_num::OutOfMemory;
-use rz_outside::Store;
+use rz_elf::elf::Elf;
+use rz_num::{Bytes, OutOfMemory};
 use rz_report::pair::pair_report;
 use std::alloc::Global;
 
-/// `report EXE NEW`: the report of the two files, or the refusal. No file changes.
-pub fn report<S: Store>(alloc: Global, r: &Report<'_>, store: &mut S) -> Result<Answer, Status>
-    ensures telling { S.told store.new ≡ S.told store.old }
-    ensures count { S.faults store.old ≤ S.faults store.new }
-    ensures carried { IsCarriedOut (reporting r.now) (store_calls S.Store store.old store.new) result }
+/// `report EXE NEW`.
+pub fn report(alloc: Global, files: &Files) -> Result<Outcome, OutOfMemory>
+    requires two { length files.now.executables.items ≡ 2 }
+    requires read { All IsRead files.now.executables.items }
+    ensures { IfOk result (IsDoneBy report_work 0 (read_in files.now)) }
 {
-    let old = read_accepted(alloc, store, r.exe)?;
-    let new = read_accepted(alloc, store, r.new_file)?;
-    match pair_report(alloc, &old, &new) {
-        Ok(text) => Ok(Answer {
-            status: Status::Ok,
-            text,
-        }),
-        Err(OutOfMemory) => Err(Status::OutOfMemory),
-    }
+    let text = report_on(alloc, files.exe(), files.new_file())?;
+    Ok(Outcome::said(alloc, Status::Ok, text))
+}
+
+// What is said of an old and a new file.
+fn report_on(alloc: Global, old: &Elf, new: &Elf) -> Result<Bytes, OutOfMemory>
+    requires old { IsRead old.now }
+    requires new { IsRead new.now }
+    ensures { IfOk result (λ text. text ≡ paired_text old.now.bytes new.now.bytes) }
+{
+    pair_report(alloc, old, new)
 }

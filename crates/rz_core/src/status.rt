@@ -1,7 +1,7 @@
 //! What the tool answers.
 
 ghost use Rattle.std.specs.Prelude.{◌≡◌};
-ghost use Rattle.rz_core.specs.Number.{number_of};
+ghost use Rattle.rz_core.specs.Statuses.{number_of};
 
 use rz_elf::fault::ElfFault;
 use rz_elf::room::Room;
@@ -59,7 +59,7 @@ pub fn number(status: &Status) -> u8
         Status::RipReach { .. } => 6,
         Status::NoRoom(_) => 7,
         Status::ReadFault { .. } => 8,
-        Status::WriteFault(_) => 9,
+        Status::WriteFault(Target::File) | Status::WriteFault(Target::Text) => 9,
         Status::Differ { .. } => 10,
         Status::StubStop { .. } => 11,
         Status::OutOfMemory => 12,

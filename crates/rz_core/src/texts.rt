@@ -1,7 +1,8 @@
 //! The texts that the tool puts.
 
 ghost use Rattle.std.specs.Prelude.{◌≡◌, string_bytes, IfOk};
-ghost use Rattle.rz_core.specs.Texts.{check_text, generated_text, traced_text, fault_text as text_of_fault, refusal_text as text_of_refusal, room_text as text_of_room, verdict_text, counted_text, compared_text};
+ghost use Rattle.rz_core.specs.Texts.{check_text, generated_text, traced_text, fault_text as text_of_fault, room_text as text_of_room, verdict_text, counted_text, compared_text};
+ghost use Rattle.rz_core.specs.Statuses.{refusal_text as text_of_refusal};
 
 use crate::status::{Status, Target};
 use rz_elf::fault::ElfFault;

@@ -1,48 +1,34 @@
-//! The command `trace`: what it reads, records and writes.
+//! The command `trace`: the trace file of the runs on inputs.
 
-ghost use Rattle.std.specs.Prelude.{◌≡◌, ◌≤◌, IfOk, IfErr};
-ghost use Rattle.rz_outside.specs.StoreAnswers.{SameFiles};
-ghost use Rattle.rz_outside.specs.StoreCalls.{store_calls};
-ghost use Rattle.rz_core.specs.Calls.Held.{tracing, HasTraces};
-ghost use Rattle.rz_core.specs.Calls.Making.{IsMade, IsUnmade};
-ghost use Rattle.rz_core.specs.Calls.Carried.{IsCarriedOut};
+ghost use Rattle.std.specs.Prelude.{◌≡◌, ◌≤◌, length, IfOk, IfErr};
+ghost use Rattle.std.specs.List.{All};
+ghost use Rattle.rz_sys.specs.Input.{IsValid};
+ghost use Rattle.rz_elf.specs.Loaded.{IsRead};
+ghost use Rattle.rz_core.specs.Reading.{read_in};
+ghost use Rattle.rz_core.specs.Command.{IsDoneBy};
+ghost use Rattle.rz_core.specs.Recorded.{trace_work};
+ghost use Rattle.rz_core.specs.Calls.Outcomes.{OwnRefusal};
 
-use crate::answer::Answer;
-use crate::making::{Made, make_trace};
-use crate::reading::{read_accepted, read_inputs};
+use crate::files::Files;
+use crate::making::make_trace;
+use crate::outcome::Outcome;
 use crate::status::Status;
-use crate::words::Trace;
-use crate::writing::write;
-use rz_outside::Store;
+use rz_num::OutOfMemory;
 use std::alloc::Global;
 
-// Reads what the command reads, and makes the trace file. No file changes.
-fn prepare<S: Store>(alloc: Global, t: &Trace<'_>, store: &mut S) -> Result<Made, Status>
-    requires { HasTraces t.now }
-    ensures telling { S.told store.new ≡ S.told store.old }
-    ensures kept { SameFiles (S.files store.old) (S.files store.new) }
-    ensures count { S.faults store.old ≤ S.faults store.new }
-    ensures made { IfOk result
-        (IsMade (tracing t.now) (store_calls S.Store store.old store.new)) }
-    ensures cause { IfErr result
-        (IsUnmade (tracing t.now) (store_calls S.Store store.old store.new)) }
+/// `trace EXE LIMIT OUT INPUT..`, with the first `limit` steps of each run.
+pub fn trace(alloc: Global, files: &Files, limit: u64) -> Result<Outcome, Status>
+    requires one { length files.now.executables.items ≡ 1 }
+    requires read { All IsRead files.now.executables.items }
+    requires runs { 1 ≤ length files.now.inputs.items }
+    requires valid { All IsValid files.now.inputs.items }
+    requires some { 1 ≤ limit }
+    ensures done { IfOk result (IsDoneBy (trace_work limit) 1 (read_in files.now)) }
+    ensures refused { IfErr result (OwnRefusal (trace_work limit) (read_in files.now)) }
 {
-    let elf = read_accepted(alloc, store, t.exe)?;
-    let inputs = read_inputs(alloc, store, t.inputs)?;
-    make_trace(alloc, &elf, inputs.as_slice(), t.limit)
-}
-
-/// `trace EXE LIMIT OUT INPUT..`: how many nodes and edges the trace has, or the refusal.
-pub fn trace<S: Store>(alloc: Global, t: &Trace<'_>, store: &mut S) -> Result<Answer, Status>
-    requires { HasTraces t.now }
-    ensures telling { S.told store.new ≡ S.told store.old }
-    ensures count { S.faults store.old ≤ S.faults store.new }
-    ensures carried { IsCarriedOut (tracing t.now) (store_calls S.Store store.old store.new) result }
-{
-    let Made { bytes, report } = prepare(alloc, t, store)?;
-    write(alloc, store, t.out, &bytes)?;
-    Ok(Answer {
-        status: Status::Ok,
-        text: report,
-    })
+    let made = make_trace(alloc, files.exe(), files.inputs.as_slice(), limit)?;
+    match Outcome::wrote(alloc, made) {
+        Ok(outcome) => Ok(outcome),
+        Err(OutOfMemory) => Err(Status::OutOfMemory),
+    }
 }

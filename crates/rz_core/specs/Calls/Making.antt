@@ -1,23 +1,18 @@
 -- What is made of a file and inputs, and when it is refused.
 use Rattle.std.specs.Prelude.{◌≡◌, ℕ, List}
-use Rattle.rz_outside.specs.StoreCalls.{StoreCalls, Held}
 use Rattle.rz_sys.specs.declared.input.Input.{Input}
 use Rattle.rz_rewrite.specs.declared.refusal.Refusal.{Refusal}
 use Rattle.rz_rewrite.specs.declared.refusal.Refusal.TheVariants as refusal
-use Rattle.rz_core.specs.declared.making.Made.{Made}
 use Rattle.rz_core.specs.declared.status.Status.{Status}
 use Rattle.rz_core.specs.declared.status.Status.TheVariants as status
-use Rattle.rz_core.specs.Kinds.{Kind, Done, TextLost, FileLost, NoMemory, Refused, kind_of}
+use Rattle.rz_core.specs.Statuses.{Kind, Done, TextLost, FileLost, NoMemory, Refused, kind_of}
 use Rattle.rz_core.specs.Decoding.{decode_profile}
-use Rattle.rz_core.specs.Reading.{Course, HoldAll}
-use Rattle.rz_core.specs.Command.{Command}
 use Rattle.rz_machine.specs.LeftCode.{LeavesCode}
 use Rattle.rz_paths.specs.declared.level.Level.{Level}
 use Rattle.rz_core.specs.Debloated.{Sources, DebloatEnds, LeavesFirst, traced}
 use Rattle.rz_core.specs.Recorded.{TraceEnds}
-use Rattle.rz_core.specs.Causes.{EndsWith}
 
--- a refusal that ends a command, or want of memory
+-- a refusal that ends a work, or want of memory
 abbrev pub EndRefusalOf : Kind → (Status → Type 0) → Status → Type 0
 EndRefusalOf Done End answer = ⊥
 EndRefusalOf TextLost End answer = ⊥
@@ -53,15 +48,3 @@ RunsRefusal limit x inputs _ = ⊥
 -- why no trace was made
 abbrev pub TraceRefusal : ℕ → List ℕ → List Input → Status → Type 0
 TraceRefusal limit x inputs answer = EndRefusal (TraceEnds limit x inputs) answer
-
--- what is made of the files that a command reads
-pub record IsMade (c : Command) (s : StoreCalls) (m : Made) : Type 0 where
-  pub contents : List (List ℕ)
-  pub read : HoldAll (Held s) c.reads contents
-  pub ends : c.Ends contents status.Ok
-  pub new : c.New contents m.bytes
-  pub report_is : c.Text contents m.bytes m.report
-
--- a command is refused before its write
-abbrev pub IsUnmade : Command → StoreCalls → Status → Type 0
-IsUnmade c s answer = Course c.reads s (EndRefusal (EndsWith c s)) answer

@@ -1,37 +1,25 @@
-use Rattle.std.proofs.Common.{refl}
-use Rattle.rz_outside.specs.StoreCalls.{StoreCalls, store_calls}
-use Rattle.rz_core.specs.Calls.Held.{debloating}
-use Rattle.rz_core.specs.Calls.Making.{IsMade}
-use Rattle.rz_core.specs.Calls.Carried.{IsCarriedOut}
-use Rattle.rz_core.proofs.CauseLaws.{handed_on, unmade_refusal, refusal_files, write_cause, write_files}
+use Rattle.std.proofs.Common.{◌≡◌, ℕ, List, ap₂}
+use Rattle.rz_sys.specs.declared.input.Input.{Input}
+use Rattle.rz_core.specs.Reading.{Read, read_in}
+use Rattle.rz_core.specs.Debloated.{Sources, sources, sources_in, debloat_work}
+use Rattle.rz_core.specs.Calls.Outcomes.{OwnRefusal}
+use Rattle.rz_core.proofs.ResultLaws.{handed_on_err}
+use Rattle.rz_core.proofs.OutcomeLaws.{debloated_done, undebloated}
 use Rattle.rz_core.proofs.debloat.debloat.Goals as goal
 
-pub returns-in_err-bytes-clause-carried : goal.returns-in_err-bytes-clause-carried
-returns-in_err-bytes-clause-carried g c =
-    let s : StoreCalls = store_calls g.S.Store c.args.store.now c.prepare.new.store in
-    let d = debloating c.args.d.now in
-    let st = c.in_err-bytes.field-0.0 in
-    let refusal = unmade_refusal d s st c.in_err-bytes.ensures.cause in
-    handed_on c.from_residual.result st (IsCarriedOut d s) c.from_residual.ensures.1 (refusal_files d s st refusal c.in_err-bytes.ensures.kept, refusal)
+pub returns-in-Ok-clause-done : goal.returns-in-Ok-clause-done
+returns-in-Ok-clause-done c =
+    let r : Read = read_in c.args.files.now in
+    let from : Sources = sources c.exe.result.now.bytes r.functions c.as_slice-inputs.result.now in
+    let same : from ≡ sources_in r = ap₂ (λ (x : List ℕ) (is : List Input). sources x r.functions is) c.exe.ensures.bytes c.as_slice-inputs.ensures.value in
+    let made = c.in_ok-made.ensures in
+    debloated_done c.args.level c.args.limit r from same c.in_ok-made.made c.in-Ok.outcome made.made made.report c.in-Ok.ensures
 
-pub returns-in_err-write-clause-carried : goal.returns-in_err-write-clause-carried
-returns-in_err-write-clause-carried g c =
-    let s : StoreCalls = store_calls g.S.Store c.args.store.now c.write.new.store in
-    let t : StoreCalls = store_calls g.S.Store c.prepare.new.store c.write.new.store in
-    let d = debloating c.args.d.now in
-    let st = c.in_err-write.field-0.0 in
-    let made = c.in_ok-bytes.ensures in
-    let write = c.in_err-write.ensures in
-    let out = c.args.d.now.out.now in
-    let m = c.in_ok-bytes.field-0 in
-    let read = made.made in
-    let again : IsMade d s m = record {
-      contents = read.contents;
-      read = read.read;
-      ends = read.ends;
-      new = read.new;
-      report_is = read.report_is;
-    }
-    in
-    handed_on c.from_residual-in_err-write.result st (IsCarriedOut d s) c.from_residual-in_err-write.ensures.1
-    (write_files d out refl s t m again st made.count refl made.telling made.kept write.others (λ q. refl) write.cause, write_cause d out refl s t m again st made.count refl refl write.cause)
+pub returns-in_err-made-clause-refused : goal.returns-in_err-made-clause-refused
+returns-in_err-made-clause-refused c =
+    let r : Read = read_in c.args.files.now in
+    let from : Sources = sources c.exe.result.now.bytes r.functions c.as_slice-inputs.result.now in
+    let same : from ≡ sources_in r = ap₂ (λ (x : List ℕ) (is : List Input). sources x r.functions is) c.exe.ensures.bytes c.as_slice-inputs.ensures.value in
+    let st = c.in_err-made.field-0.0 in
+    handed_on_err c.from_residual.result st (OwnRefusal (debloat_work c.args.level c.args.limit) r) c.from_residual.ensures.1
+    (undebloated c.args.level c.args.limit r from same st c.in_err-made.ensures.err)

@@ -1,45 +1,35 @@
-use Rattle.std.proofs.Common.{List, ap, sym, subst, ◌∙◌}
-use Rattle.rz_sys.specs.declared.input.Input.{Input}
+use Rattle.std.proofs.Common.{sym, subst}
 use Rattle.rz_machine.specs.Traced.{kept_in}
-use Rattle.rz_core.specs.Debloated.{AllStay, recorded_of}
-use Rattle.rz_core.specs.Calls.Making.{RunsRefusal, MakeRefusal}
-use Rattle.rz_core.specs.Calls.Programs.{held_sources}
-use Rattle.rz_core.proofs.CauseLaws.{handed_on_err}
+use Rattle.rz_core.specs.Debloated.{sources}
+use Rattle.rz_core.specs.Calls.Making.{MakeRefusal}
+use Rattle.rz_core.proofs.ResultLaws.{handed_on_err}
 use Rattle.rz_core.proofs.MadeLaws.{debloated_of, is_kept, make_refusal, refused_of}
 use Rattle.rz_core.proofs.making.make.Goals as goal
 
 pub returns-in-Ok-write_new-clause-made : goal.returns-in-Ok-write_new-clause-made
 returns-in-Ok-write_new-clause-made c =
-    let from = held_sources c.args.sources.now in
-    let inputs = c.as_slice.ensures.value in
+    let from = sources c.args.elf.now.bytes c.args.classes.now c.args.inputs.now in
     let runs = c.in_ok-recorded.ensures in
-    let recorded = runs.kept ∙ ap (λ (is : List Input). recorded_of c.args.limit from.exe is) inputs in
-    let stay = subst (λ (is : List Input). AllStay c.args.limit from.exe is) inputs runs.stay in
     let kept = c.in-Ok.ensures in
     let made = c.in-Ok-write_new.ensures in
-    debloated_of c.args.level c.args.limit from c.in_ok-recorded.recorded c.in-Ok.kept recorded kept.keeps stay c.in-Ok-write_new.made.bytes
-    kept.within made.reach made.room made.keeps made.inert
+    debloated_of c.args.level c.args.limit from c.in_ok-recorded.recorded c.in-Ok.kept runs.kept kept.keeps runs.stay c.in-Ok-write_new.made.bytes
+    kept.within made.reach made.room made.keeps made.paced made.inert
 
 pub returns-in-Ok-write_new-clause-report : goal.returns-in-Ok-write_new-clause-report
 returns-in-Ok-write_new-clause-report c =
-    let from = held_sources c.args.sources.now in
-    let recorded = c.in_ok-recorded.ensures.kept ∙ ap (λ (is : List Input). recorded_of c.args.limit from.exe is) c.as_slice.ensures.value in
-    (kept_in c.in-Ok.kept, is_kept c.args.level c.args.limit from c.in_ok-recorded.recorded c.in-Ok.kept recorded c.in-Ok.ensures.keeps, c.in-Ok-write_new.ensures.report)
+    let from = sources c.args.elf.now.bytes c.args.classes.now c.args.inputs.now in
+    (kept_in c.in-Ok.kept, is_kept c.args.level c.args.limit from c.in_ok-recorded.recorded c.in-Ok.kept c.in_ok-recorded.ensures.kept c.in-Ok.ensures.keeps, c.in-Ok-write_new.ensures.report)
 
 pub returns-clause-err : goal.returns-clause-err
 returns-clause-err c =
-    let from = held_sources c.args.sources.now in
-    let inputs = c.as_slice.ensures.value in
+    let from = sources c.args.elf.now.bytes c.args.classes.now c.args.inputs.now in
     let runs = c.in_ok-recorded.ensures in
-    let recorded = runs.kept ∙ ap (λ (is : List Input). recorded_of c.args.limit from.exe is) inputs in
-    let stay = subst (λ (is : List Input). AllStay c.args.limit from.exe is) inputs runs.stay in
     subst (MakeRefusal c.args.level c.args.limit from) (sym c.refused.ensures)
-    (refused_of c.args.level c.args.limit from c.in_ok-recorded.recorded c.in-Ok.kept recorded c.in-Ok.ensures.keeps stay c.in-Err.why c.in-Err.ensures.refused)
+    (refused_of c.args.level c.args.limit from c.in_ok-recorded.recorded c.in-Ok.kept runs.kept c.in-Ok.ensures.keeps runs.stay c.in-Err.why c.in-Err.ensures.refused)
 
 pub returns-in_err-recorded-clause-err : goal.returns-in_err-recorded-clause-err
 returns-in_err-recorded-clause-err c =
     let st = c.in_err-recorded.field-0.0 in
-    let from = held_sources c.args.sources.now in
+    let from = sources c.args.elf.now.bytes c.args.classes.now c.args.inputs.now in
     handed_on_err c.from_residual.result st (MakeRefusal c.args.level c.args.limit from) c.from_residual.ensures.1
-    (make_refusal c.args.level c.args.limit from st
-    (subst (λ (is : List Input). RunsRefusal c.args.limit from.exe is st) c.as_slice.ensures.value c.in_err-recorded.ensures.err))
+    (make_refusal c.args.level c.args.limit from st c.in_err-recorded.ensures.err)

@@ -3,7 +3,7 @@ use Rattle.rz_machine.specs.Kept.{Kept}
 use Rattle.rz_trace.specs.Printed.{printed}
 use Rattle.rz_core.specs.Recorded.{trace_report}
 use Rattle.rz_core.specs.Calls.Making.{TraceRefusal}
-use Rattle.rz_core.proofs.CauseLaws.{handed_on_err}
+use Rattle.rz_core.proofs.ResultLaws.{handed_on_err}
 use Rattle.rz_core.proofs.MadeLaws.{trace_refusal}
 use Rattle.rz_core.proofs.making.make_trace.Goals as goal
 

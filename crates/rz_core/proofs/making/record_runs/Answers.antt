@@ -1,7 +1,7 @@
 use Rattle.std.proofs.Common.{ap}
 use Rattle.rz_aset.specs.declared.kept.Record.{Record}
 use Rattle.rz_core.specs.Calls.Making.{RunsRefusal}
-use Rattle.rz_core.proofs.CauseLaws.{handed_on_err}
+use Rattle.rz_core.proofs.ResultLaws.{handed_on_err}
 use Rattle.rz_core.proofs.UnionLaws.{unites_none, unites_more, unites_not}
 use Rattle.rz_machine.specs.Traced.{kept_in}
 use Rattle.rz_core.proofs.making.record_runs.Goals as goal

@@ -1,0 +1,6 @@
+//! What the tool takes instructions to be.
+
+use rz_table::Profile1;
+
+/// The table in force, by which files are traced, rewritten, run and listed.
+pub type Decoding = Profile1;
