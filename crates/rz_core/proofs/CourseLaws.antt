@@ -7,6 +7,7 @@ use Rattle.rz_outside.specs.StoreCalls.{StoreCalls, Held}
 use Rattle.rz_elf.specs.Elf.{fault_of}
 use Rattle.rz_classes.specs.Fault.{fault_of as class_fault_of}
 use Rattle.rz_input.specs.Fault.{fault_of as input_fault_of}
+use Rattle.rz_trace.specs.Fault.{fault_of as trace_fault_of}
 use Rattle.rz_core.specs.declared.status.Status.{Status}
 use Rattle.rz_core.specs.declared.status.Status.TheVariants as status
 use Rattle.rz_core.specs.Statuses.{Kind, Done, TextLost, NoMemory, Refused, kind_of}
@@ -55,6 +56,7 @@ taken_early : (d : Demand) (name : List ℕ) (r : Read) (x : List ℕ) (st : Sta
 taken_early demand.Accepted name r x st e = judged_early (fault_of x) _ _ st (λ f. tt) (not_err _ st) e
 taken_early demand.ClassFile name r x st e = judged_early (class_fault_of x) _ _ st (λ f. tt) (not_err _ st) e
 taken_early demand.Input name r x st e = judged_early (input_fault_of x) _ _ st (λ f. tt) (not_err _ st) e
+taken_early demand.Trace name r x st e = judged_early (trace_fault_of x) _ _ st (λ f. tt) (not_err _ st) e
 
 pub refusal_early : (w : Wanted) (r : Read) (s : StoreCalls) (st : Status) → FileRefusal w r s st → IsEarlyAt st
 refusal_early w r s st h = ⊎_elim (λ u. read_early w.name s st u) (λ u. taken_early w.demand w.name r u.0 st u.2) h

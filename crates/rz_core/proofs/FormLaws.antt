@@ -1,5 +1,5 @@
 -- What the words of a form say is sound: what is read serves its work, and its written files are different.
-use Rattle.std.proofs.Common.{arith, ◌≡◌, ◌≢◌, ℕ, zero, suc, ◌+◌, ◌≤◌, Bool, true, false, if◌then◌else◌, List, [], ◌∷◌, ◌++◌, length, length-append, inl, inr, ⊎_elim, refl, sym, subst}
+use Rattle.std.proofs.Common.{arith, ◌≡◌, ◌≢◌, ℕ, ◌+◌, ◌≤◌, Bool, true, false, if◌then◌else◌, List, [], ◌∷◌, ◌++◌, length, length-append, inl, inr, ⊎_elim, refl, sym, subst}
 use Rattle.std.proofs.lemmas.Bool.{leb-true}
 use Rattle.std.proofs.lemmas.Slice.Eq.{bytes_eq-Decides}
 use Rattle.std.specs.Prelude.{◌⊎◌, IsTrue, ◌||◌, not, ◌&&◌, nat_le, bytes_eq, codes, Option, Some, None, option_map, option_and_then, Result, Ok, Err}
@@ -11,7 +11,6 @@ use Rattle.rz_core.specs.declared.plan.Demand.{Demand}
 use Rattle.rz_core.specs.declared.plan.Demand.TheVariants as demand
 use Rattle.rz_core.specs.declared.plan.Wanted.{Wanted}
 use Rattle.rz_core.specs.declared.plan.Verb.{Verb}
-use Rattle.rz_core.specs.declared.plan.Values.{Values}
 use Rattle.rz_core.specs.declared.forms.Place.{Place}
 use Rattle.rz_core.specs.declared.forms.Place.TheVariants as place
 use Rattle.rz_core.specs.Reading.{Read, nothing, taken_as, AreTaken}
@@ -232,6 +231,7 @@ counted_given : (d : Demand) (r : Read) (x : List ℕ) → IsCounted (executable
 counted_given demand.Accepted r x = let n = length-append r.executables (elf_of x ∷ []) in record { exes_are = n; inputs_are = omega arith }
 counted_given demand.ClassFile r x = record { exes_are = omega arith; inputs_are = omega arith }
 counted_given demand.Input r x = let n = length-append r.inputs (input_of x ∷ []) in record { exes_are = omega arith; inputs_are = n }
+counted_given demand.Trace r x = record { exes_are = omega arith; inputs_are = omega arith }
 
 counted : (d : Demand) (name : List ℕ) (r : Read) (x : List ℕ) (next : Read) → taken_as d name r x ≡ Ok next → IsCounted (executables_for d) (inputs_for d) r next
 counted d name r x next e = subst (λ (y : Read). IsCounted (executables_for d) (inputs_for d) r y) (sym (took d name r x next e).1) (counted_given d r x)

@@ -1,5 +1,5 @@
 -- Worked rows of the forms.
-use Rattle.std.proofs.Common.{◌≡◌, ℕ, List, [], ◌∷◌, Some, None, refl}
+use Rattle.std.proofs.Common.{◌≡◌, ℕ, [], ◌∷◌, Some, None, refl}
 use Rattle.std.specs.Prelude.{codes}
 use Rattle.rz_text.specs.Number.{decimal, hexadecimal}
 use Rattle.rz_paths.specs.declared.level.Level.{Level}

@@ -6,10 +6,8 @@ use Rattle.rz_outside.specs.StoreAnswers.{Files}
 use Rattle.rz_outside.specs.StoreCalls.{StoreCalls, Held}
 use Rattle.rz_outside.specs.SinkCalls.{SinkCalls}
 use Rattle.rz_elf.specs.Loaded.{ElfFile, elf_of}
-use Rattle.rz_classes.specs.declared.listed.Function.{Function}
 use Rattle.rz_sys.specs.declared.input.Input.{Input}
 use Rattle.rz_input.specs.Value.{input_of}
-use Rattle.rz_paths.specs.declared.level.Level.{Level}
 use Rattle.rz_core.specs.declared.status.Status.{Status}
 use Rattle.rz_core.specs.declared.status.Status.TheVariants as status
 use Rattle.rz_core.specs.declared.plan.Demand.{Demand}
@@ -18,6 +16,7 @@ use Rattle.rz_core.specs.declared.plan.Wanted.{Wanted}
 use Rattle.rz_core.specs.declared.plan.Verb.{Verb}
 use Rattle.rz_core.specs.declared.plan.Verb.TheVariants as verb
 use Rattle.rz_core.specs.declared.plan.Values.{Values}
+use Rattle.rz_trace.specs.Value.{no_record}
 use Rattle.rz_core.specs.Inputs.{HoldInputs}
 use Rattle.rz_core.specs.Classes.{HoldsClasses}
 use Rattle.rz_core.specs.Reading.{Read, nothing, taken_as, exe_of, AreTaken, Course}
@@ -55,6 +54,7 @@ module _ (files : Files) where
   executable_read demand.Accepted name names r x last held rest = (x ∷ rest.0, (held, rest.1), rest.2 ∙ append_assoc r.executables (elf_of x ∷ []) (map elf_of rest.0))
   executable_read demand.ClassFile name names r x last held rest = rest
   executable_read demand.Input name names r x last held rest = rest
+  executable_read demand.Trace name names r x last held rest = rest
 
   executables_read : (ws : List Wanted) (r last : Read) → AreTaken (holds files) ws r last → ReadExecutables (executables ws) r last
   executables_read [] r last e = ([], tt, ap (λ (y : Read). y.executables) (sym e) ∙ sym (append-nil r.executables))
@@ -71,6 +71,7 @@ module _ (files : Files) where
       → ReadInputs (input_added d name names) r last
   input_read demand.Accepted name names r x next last held is rest = rest
   input_read demand.ClassFile name names r x next last held is rest = rest
+  input_read demand.Trace name names r x next last held is rest = rest
   input_read demand.Input name names r x next last held is rest =
       (input_of x ∷ rest.0, ((x, held, (took demand.Input name r x next is).0, refl), rest.1), rest.2 ∙ append_assoc r.inputs (input_of x ∷ []) rest.0)
 
@@ -87,6 +88,7 @@ module _ (files : Files) where
   classes_given demand.Accepted name found r x next held is h = h
   classes_given demand.ClassFile name found r x next held is h = (x, held, (took demand.ClassFile name r x next is).0, refl)
   classes_given demand.Input name found r x next held is h = h
+  classes_given demand.Trace name found r x next held is h = h
 
   classes_read : (ws : List Wanted) (found : Option (List ℕ)) (r last : Read) → AreTaken (holds files) ws r last → HoldsClasses (holds files) found r.functions → HoldsClasses (holds files) (last_classes found ws) last.functions
   classes_read [] found r last e h = subst (λ (y : Read). HoldsClasses (holds files) found y.functions) e h
@@ -109,7 +111,7 @@ module _ (files : Files) (names : List (List ℕ)) (r : Read) where
   one_executable (x ∷ []) one held are = (x, (held, ap (λ (es : List ElfFile). first_of es) are))
     where
       first_of : List ElfFile → List ℕ
-      first_of es = exe_of (record { executables = es; functions = []; inputs = [] })
+      first_of es = exe_of (record { executables = es; functions = []; inputs = []; trace = no_record })
   one_executable (x ∷ y ∷ xs) one held are = let n = ap (λ (es : List ElfFile). length es) are in absurd (omega (arith, n, one))
 
 module _ (p : Planned) (old new : Files) (r : Read) (read : AreTaken (holds old) p.reads nothing r) where

@@ -1,5 +1,5 @@
 -- From what was made to the outcome of a work.
-use Rattle.std.proofs.Common.{◌≡◌, ◌∙◌, ℕ, List, [], ◌∷◌, length, refl, sym, ap, ap₂, subst}
+use Rattle.std.proofs.Common.{◌≡◌, ◌∙◌, ℕ, List, [], ◌∷◌, length, sym, ap, ap₂, subst}
 use Rattle.std.specs.Prelude.{Result, Ok, Err, IfOk}
 use Rattle.rz_num.specs.declared.want.OutOfMemory.{OutOfMemory}
 use Rattle.rz_core.specs.declared.status.Status.{Status}

@@ -1,5 +1,5 @@
 -- What a bounded read says of the whole file.
-use Rattle.std.proofs.Common.{◌≡◌, ◌≢◌, inl, inr, ◌++◌, drop, if◌then◌else◌, ⊎_elim, Option, Some, None, lt-ltb, Bool, true, false, ℕ, ◌+◌, ◌<◌, ◌≤◌, List, length, take, min, refl, sym, ap, ◌∙◌, arith, take_all, length-take}
+use Rattle.std.proofs.Common.{◌≡◌, ◌++◌, drop, if◌then◌else◌, ⊎_elim, Option, Some, None, lt-ltb, Bool, true, false, ℕ, ◌+◌, ◌<◌, ◌≤◌, List, length, take, min, refl, sym, ap, ◌∙◌, arith, take_all, length-take}
 use Rattle.std.proofs.lemmas.Bool.{cases_lt}
 use Rattle.std.specs.Prelude.{IsTrue}
 use Rattle.rz_outside.specs.StoreAnswers.{Files, ReadsFirst}
@@ -10,6 +10,9 @@ use Rattle.rz_input.specs.Fault.{fault_of as input_fault_of, fault_of_line}
 use Rattle.rz_text.specs.Fault.{line_fault}
 use Rattle.rz_classes.specs.declared.error.ClassError.TheVariants as class_error
 use Rattle.rz_classes.specs.Fault.{fault_of as class_fault_of, fault_of_line as class_fault_of_line}
+use Rattle.rz_trace.specs.declared.error.TraceFault.TheVariants as trace_error
+use Rattle.rz_trace.specs.Fault.{fault_of as trace_fault_of, fault_of_lines}
+use Rattle.rz_text.specs.Lines.{lines_from}
 use Rattle.rz_core.proofs.ResultLaws.{not_both}
 
 -- a test that refuses each list of more than `most` bytes in one way tells as much of the first bytes, one more than that, as of all
@@ -51,6 +54,10 @@ long_input x long = ap (λ b. if b then Some (error.BadLine 0) else line_fault f
 -- a class file of too many bytes
 pub long_classes : (x : List ℕ) → 16777216 < length x → class_fault_of x ≡ Some (class_error.BadLine 0)
 long_classes x long = ap (λ b. if b then Some (class_error.BadLine 0) else line_fault class_fault_of_line x) (lt-ltb 16777216 (length x) long)
+
+-- a trace file of too many bytes
+pub long_trace : (x : List ℕ) → 16777216 < length x → trace_fault_of x ≡ Some (trace_error.BadLine 0)
+long_trace x long = ap (λ b. if b then Some (trace_error.BadLine 0) else fault_of_lines (lines_from 1 x)) (lt-ltb 16777216 (length x) long)
 
 -- what holds of the first bytes, and then of the whole file, holds of what was read
 pub of_read : (told : Bool) (files : Files) (name : List ℕ) (max : ℕ) (bytes : List ℕ) (P : List ℕ → Type 0) → ReadsFirst told files name max bytes → P bytes

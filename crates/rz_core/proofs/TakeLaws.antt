@@ -11,13 +11,16 @@ use Rattle.rz_classes.specs.Fault.{fault_of as class_fault_of, functions_of}
 use Rattle.rz_input.specs.declared.error.InputError.TheVariants as error
 use Rattle.rz_input.specs.Fault.{fault_of as input_fault_of}
 use Rattle.rz_input.specs.Value.{input_of}
+use Rattle.rz_trace.specs.declared.error.TraceFault.TheVariants as trace_error
+use Rattle.rz_trace.specs.Fault.{fault_of as trace_fault_of}
+use Rattle.rz_trace.specs.Value.{record_of}
 use Rattle.rz_core.specs.declared.status.Status.{Status}
 use Rattle.rz_core.specs.declared.status.Status.TheVariants as status
-use Rattle.rz_core.proofs.ReadLaws.{fault_whole, read_whole, of_read, long_executable, long_input, long_classes}
+use Rattle.rz_core.proofs.ReadLaws.{fault_whole, read_whole, of_read, long_executable, long_input, long_classes, long_trace}
 use Rattle.rz_core.specs.declared.plan.Demand.{Demand}
 use Rattle.rz_core.specs.declared.plan.Demand.TheVariants as demand
 use Rattle.rz_core.specs.declared.plan.Wanted.{Wanted}
-use Rattle.rz_core.specs.Reading.{Read, judged, taken, taken_as, with_executable, with_functions, with_input, FileRefusal}
+use Rattle.rz_core.specs.Reading.{Read, judged, taken, taken_as, with_executable, with_functions, with_input, with_trace, FileRefusal}
 use Rattle.rz_core.specs.Calls.Taking.{most_of, Untaken}
 
 same_judged : {E : Type 0} (fault : List ℕ → Option E) (most : ℕ) (long : E) (is_long : (x : List ℕ) → most < length x → fault x ≡ Some long) (refusal : E → Status) (next : List ℕ → Result Read Status)
@@ -37,6 +40,8 @@ taken_whole demand.ClassFile name r whole bytes first =
     same_judged class_fault_of 16777216 (class_error.BadLine 0) long_classes _ (λ x. Ok (with_functions r (functions_of x))) whole bytes first
 taken_whole demand.Input name r whole bytes first =
     same_judged input_fault_of 16777216 (error.BadLine 0) long_input _ (λ x. Ok (with_input r (input_of x))) whole bytes first
+taken_whole demand.Trace name r whole bytes first =
+    same_judged trace_fault_of 16777216 (trace_error.BadLine 0) long_trace _ (λ x. Ok (with_trace r (record_of x))) whole bytes first
 
 module _ (s : StoreCalls) (w : Wanted) (r : Read) (bytes : List ℕ) (reads : ReadsFirst s.told s.old w.name (most_of w.demand) bytes) where
   pub taken_held : (o : Result Read Status) → taken w r bytes ≡ o → (x : List ℕ) × Held s w.name x × (taken w r x ≡ o)

@@ -3,6 +3,7 @@ pub mod Making
 pub mod Outcomes
 pub mod Running
 pub mod Replaying
+pub mod Said
 pub mod Planned
 pub mod Carried
 pub mod Putting

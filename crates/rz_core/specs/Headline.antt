@@ -1,5 +1,5 @@
 -- The headline: what holds of the written file where debloating answers Ok.
-use Rattle.std.specs.Prelude.{◌≡◌, IsTrue, List, ℕ, [], ◌∷◌, Option, Some, None}
+use Rattle.std.specs.Prelude.{IsTrue, List, ℕ, [], ◌∷◌, Option, Some, None}
 use Rattle.std.specs.List.{AllByRecursion}
 use Rattle.rz_outside.specs.StoreAnswers.{Files}
 use Rattle.rz_outside.specs.StoreCalls.{StoreCalls}

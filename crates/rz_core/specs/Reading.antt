@@ -11,6 +11,9 @@ use Rattle.rz_sys.specs.declared.input.Input.{Input}
 use Rattle.rz_sys.specs.Input.{empty_input}
 use Rattle.rz_input.specs.Fault.{fault_of as input_fault_of}
 use Rattle.rz_input.specs.Value.{input_of}
+use Rattle.rz_aset.specs.declared.kept.Record.{Record}
+use Rattle.rz_trace.specs.Fault.{fault_of as trace_fault_of}
+use Rattle.rz_trace.specs.Value.{no_record, record_of}
 use Rattle.rz_core.specs.declared.status.Status.{Status}
 use Rattle.rz_core.specs.declared.status.Status.TheVariants as status
 use Rattle.rz_core.specs.declared.files.Files.{Files}
@@ -19,19 +22,21 @@ use Rattle.rz_core.specs.declared.plan.Demand.TheVariants as demand
 use Rattle.rz_core.specs.declared.plan.Wanted.{Wanted}
 use Rattle.rz_core.specs.Inputs.{line_of}
 use Rattle.rz_core.specs.Classes.{line_of as class_line_of}
+use Rattle.rz_core.specs.Traces.{line_of as trace_line_of}
 
 -- what was read so far, each kind in the order of the reads
 pub record Read : Type 0 where
   pub executables : List ElfFile
   pub functions : List Function
   pub inputs : List Input
+  pub trace : Record
 
 abbrev pub nothing : Read
-nothing = record { executables = []; functions = []; inputs = [] }
+nothing = record { executables = []; functions = []; inputs = []; trace = no_record }
 
 -- as the code holds it
 abbrev pub read_in : Files → Read
-read_in f = record { executables = f.executables.items; functions = f.functions; inputs = f.inputs.items }
+read_in f = record { executables = f.executables.items; functions = f.functions; inputs = f.inputs.items; trace = f.trace }
 
 -- the bytes of the first executable
 abbrev first_bytes : List ElfFile → List ℕ
@@ -58,13 +63,16 @@ abbrev pub input_in : Read → Input
 input_in r = first_input r.inputs
 
 abbrev pub with_executable : Read → ElfFile → Read
-with_executable r elf = record { executables = r.executables ++ (elf ∷ []); functions = r.functions; inputs = r.inputs }
+with_executable r elf = record { executables = r.executables ++ (elf ∷ []); functions = r.functions; inputs = r.inputs; trace = r.trace }
 
 abbrev pub with_functions : Read → List Function → Read
-with_functions r functions = record { executables = r.executables; functions = functions; inputs = r.inputs }
+with_functions r functions = record { executables = r.executables; functions = functions; inputs = r.inputs; trace = r.trace }
 
 abbrev pub with_input : Read → Input → Read
-with_input r input = record { executables = r.executables; functions = r.functions; inputs = r.inputs ++ (input ∷ []) }
+with_input r input = record { executables = r.executables; functions = r.functions; inputs = r.inputs ++ (input ∷ []); trace = r.trace }
+
+abbrev pub with_trace : Read → Record → Read
+with_trace r trace = record { executables = r.executables; functions = r.functions; inputs = r.inputs; trace = trace }
 
 -- the refusal of a fault, or else what follows
 abbrev pub judged : {E : Type 0} → Option E → (E → Status) → Result Read Status → Result Read Status
@@ -78,6 +86,8 @@ taken_as demand.ClassFile name r x =
     judged (class_fault_of x) (λ f. status.BadClasses (class_line_of f)) (Ok (with_functions r (functions_of x)))
 taken_as demand.Input name r x =
     judged (input_fault_of x) (λ f. status.BadInput (length r.inputs + 1) (line_of f)) (Ok (with_input r (input_of x)))
+taken_as demand.Trace name r x =
+    judged (trace_fault_of x) (λ f. status.BadTrace (trace_line_of f)) (Ok (with_trace r (record_of x)))
 
 abbrev pub taken : Wanted → Read → List ℕ → Result Read Status
 taken w r x = taken_as w.demand w.name r x

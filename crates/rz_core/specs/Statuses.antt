@@ -41,6 +41,7 @@ row_of (status.WriteFault target.Text) = row 9 TextLost []
 row_of (status.Differ event) = row 10 Done []
 row_of (status.StubStop source) = row 11 Done []
 row_of status.OutOfMemory = row 12 NoMemory []
+row_of (status.BadTrace line) = row 16 Refused (codes "bad trace " ++ (decimal line ++ 10 ∷ []))
 
 abbrev pub number_of : Status → ℕ
 number_of st = (row_of st).number

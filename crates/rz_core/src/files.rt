@@ -1,5 +1,6 @@
 //! What was read.
 
+use rz_aset::Record;
 use rz_classes::Classes;
 use rz_elf::elf::Elf;
 use rz_sys::input::Input;
@@ -11,6 +12,7 @@ pub struct Files {
     pub executables: Vec<Elf>,
     pub functions: Classes,
     pub inputs: Vec<Input>,
+    pub trace: Record,
 }
 
 impl Files {
@@ -28,6 +30,7 @@ impl Files {
             executables: Vec::new(alloc),
             functions: Classes::none(alloc),
             inputs: Vec::new(alloc),
+            trace: Record::new(alloc),
         }
     }
 

@@ -34,6 +34,8 @@ pub enum Demand {
     ClassFile,
     /// The next input.
     Input,
+    /// A trace file.
+    Trace,
 }
 
 /// A file that is read.

@@ -8,8 +8,8 @@ ghost use Rattle.rz_elf.specs.Elf.{fault_of};
 ghost use Rattle.rz_elf.specs.Loaded.{elf_of};
 ghost use Rattle.rz_sys.specs.Input.{IsValid};
 ghost use Rattle.rz_core.specs.Reading.{read_in, nothing, taken, taken_as, IsTaken, AreTaken, ReadRefusal, FileRefusal, IsUnread};
-ghost use Rattle.rz_core.specs.Calls.Taking.{IsRefusedFor, Untaken, most_of, class_refusal as class_refusal_of, input_refusal as input_refusal_of};
-ghost use Rattle.rz_core.specs.declared.plan.Demand.TheVariants.{Accepted, ClassFile, Input};
+ghost use Rattle.rz_core.specs.Calls.Taking.{IsRefusedFor, Untaken, most_of, class_refusal as class_refusal_of, input_refusal as input_refusal_of, trace_refusal as trace_refusal_of};
+ghost use Rattle.rz_core.specs.declared.plan.Demand.TheVariants.{Accepted, ClassFile, Input, Trace};
 
 use crate::files::Files;
 use crate::plan::{Demand, Wanted};
@@ -21,6 +21,7 @@ use rz_elf::read::read_elf;
 use rz_input::InputError;
 use rz_num::{Bytes, Text};
 use rz_outside::{ReadErr, Store};
+use rz_trace::{TraceFault, read_trace};
 use std::alloc::Global;
 
 // How many bytes of an executable are asked for: one more than an accepted file has.
@@ -53,7 +54,7 @@ fn most(demand: Demand) -> u64
 {
     match demand {
         Demand::Accepted => EXECUTABLE_MAX,
-        Demand::ClassFile | Demand::Input => TEXT_MAX,
+        Demand::ClassFile | Demand::Input | Demand::Trace => TEXT_MAX,
     }
 }
 
@@ -136,6 +137,30 @@ fn take_input(alloc: Global, name: &Text, bytes: Bytes, files: &mut Files) -> Re
     }
 }
 
+// How a trace file is refused.
+fn trace_refusal(fault: TraceFault) -> Status
+    ensures { result ≡ trace_refusal_of fault }
+{
+    match fault {
+        TraceFault::OutOfMemory => Status::OutOfMemory,
+        TraceFault::BadLine(line) => Status::BadTrace { line },
+    }
+}
+
+fn take_trace(alloc: Global, name: &Text, bytes: Bytes, files: &mut Files) -> Result<(), Status>
+    ensures ok { OnOk result (taken_as Trace name.now (read_in files.old) bytes ≡ Ok (read_in files.new)) }
+    ensures valid { All IsValid files.old.inputs.items → All IsValid files.new.inputs.items }
+    ensures err { IfErr result (Untaken (taken_as Trace name.now (read_in files.old) bytes)) }
+{
+    match read_trace(alloc, &bytes) {
+        Ok(trace) => {
+            files.trace = trace;
+            Ok(())
+        }
+        Err(fault) => Err(trace_refusal(fault)),
+    }
+}
+
 // Takes the bytes of a file for what it has to be, or gives the refusal.
 fn take(alloc: Global, wanted: &Wanted, bytes: Bytes, files: &mut Files) -> Result<(), Status>
     ensures ok { OnOk result (taken wanted.now (read_in files.old) bytes ≡ Ok (read_in files.new)) }
@@ -146,6 +171,7 @@ fn take(alloc: Global, wanted: &Wanted, bytes: Bytes, files: &mut Files) -> Resu
         Demand::Accepted => take_accepted(alloc, &wanted.name, bytes, files),
         Demand::ClassFile => take_classes(alloc, &wanted.name, bytes, files),
         Demand::Input => take_input(alloc, &wanted.name, bytes, files),
+        Demand::Trace => take_trace(alloc, &wanted.name, bytes, files),
     }
 }
 

@@ -3,8 +3,9 @@
 ghost use Rattle.std.specs.Prelude.{◌≡◌, string_bytes, IfOk};
 ghost use Rattle.rz_core.specs.Texts.{check_text, generated_text, traced_text, fault_text as text_of_fault, room_text as text_of_room, verdict_text, counted_text, compared_text};
 ghost use Rattle.rz_core.specs.Statuses.{refusal_text as text_of_refusal};
+ghost use Rattle.rz_core.specs.Calls.Said.{text_said};
 
-use crate::status::{Status, Target};
+use crate::status::{Said, Status, row_of};
 use rz_elf::fault::ElfFault;
 use rz_elf::room::Room;
 use rz_replay::compare::Verdict;
@@ -103,36 +104,36 @@ fn room_text(alloc: Global, room: Room) -> Result<String, AllocError>
     }
 }
 
+// What is said.
+fn say(alloc: Global, said: Said) -> Result<String, AllocError>
+    ensures { IfOk result (λ s. string_bytes s ≡ text_said said.entry) }
+{
+    match said {
+        Said::Nothing => format!(in alloc; ""),
+        Said::Words(words) => format!(in alloc; "{words}\n"),
+        Said::Name(words, name) => {
+            let name = name.as_slice();
+            format!(in alloc; "{words} {name}\n")
+        }
+        Said::Number(words, n) => format!(in alloc; "{words} {n}\n"),
+        Said::Address(words, address) => format!(in alloc; "{words} 0x{address:x}\n"),
+        Said::Numbers(words, n, m) => format!(in alloc; "{words} {n} {m}\n"),
+        Said::Place(words, n, address) => format!(in alloc; "{words} {n} 0x{address:x}\n"),
+        Said::Fault(words, name, fault) => {
+            let fault = fault_text(alloc, fault)?;
+            let name = name.as_slice();
+            format!(in alloc; "{words} {name} {fault}\n")
+        }
+        Said::Room(words, room) => {
+            let room = room_text(alloc, room)?;
+            format!(in alloc; "{words} {room}\n")
+        }
+    }
+}
+
 /// The text of a refusal; empty for the answers that have none.
 pub fn refusal(alloc: Global, status: &Status) -> Result<String, AllocError>
     ensures { IfOk result (λ s. string_bytes s ≡ text_of_refusal status.now) }
 {
-    match status {
-        Status::Usage => format!(in alloc; "usage\n"),
-        Status::Refused { file, fault } => {
-            let fault = fault_text(alloc, *fault)?;
-            let file = file.as_slice();
-            format!(in alloc; "refused {file} {fault}\n")
-        }
-        Status::BadInput { input, line } => format!(in alloc; "bad input {input} {line}\n"),
-        Status::BadClasses { line } => format!(in alloc; "bad classes {line}\n"),
-        Status::LeftCode { input, address } => format!(in alloc;
-            "left code {input} 0x{address:x}\n"
-        ),
-        Status::RipReach { address } => format!(in alloc; "rip reach 0x{address:x}\n"),
-        Status::NoRoom(room) => {
-            let room = room_text(alloc, *room)?;
-            format!(in alloc; "no room {room}\n")
-        }
-        Status::ReadFault { file } => {
-            let file = file.as_slice();
-            format!(in alloc; "read fault {file}\n")
-        }
-        Status::WriteFault(Target::File) => format!(in alloc; "write fault file\n"),
-        Status::WriteFault(Target::Text)
-        | Status::Ok
-        | Status::Differ { .. }
-        | Status::StubStop { .. }
-        | Status::OutOfMemory => format!(in alloc; ""),
-    }
+    say(alloc, row_of(status).text)
 }

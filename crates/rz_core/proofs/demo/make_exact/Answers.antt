@@ -2,7 +2,6 @@ use Rattle.std.proofs.Common.{List, [], ◌∷◌, ap₂, subst}
 use Rattle.rz_gen.specs.declared.file.TheConstants.{GEN_STEPS_LIMIT}
 use Rattle.rz_classes.specs.declared.listed.Function.{Function}
 use Rattle.rz_sys.specs.declared.input.Input.{Input}
-use Rattle.rz_sys.specs.Input.{empty_input}
 use Rattle.rz_paths.specs.declared.level.Level.TheVariants as level
 use Rattle.rz_core.specs.Debloated.{Sources, sources, IsReport}
 use Rattle.rz_core.proofs.ResultLaws.{if_ok}
