@@ -10,6 +10,8 @@ mod frag;
 #[cfg(test)]
 mod layout;
 #[cfg(test)]
+mod lookup;
+#[cfg(test)]
 mod machine;
 #[cfg(test)]
 mod replay;

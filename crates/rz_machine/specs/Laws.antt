@@ -8,7 +8,10 @@ pub mod RunTurns
 pub mod Sets
 pub mod StartCode
 pub mod StartHeap
+pub mod States
 pub mod Steps
+pub mod Stored
+pub mod Transfers
 pub mod Trace
 pub mod Ways
 pub mod Registers

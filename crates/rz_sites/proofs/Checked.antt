@@ -24,8 +24,9 @@ use Rattle.rz_machine.specs.State.{step}
 use Rattle.rz_machine.specs.Simulates.{InsnAt, ItemAt, ItemsFrom, HasCode, label_at, leads}
 use Rattle.rz_machine.specs.Laws.Comes.{step_is, jump_is, count_is, Comes, stay, one_more, weaker, jump_comes}
 use Rattle.rz_machine.specs.Sequence.{add_to, load_at, jump, check}
-use Rattle.rz_sites.proofs.Stored.{word}
-use Rattle.rz_sites.proofs.Steps.{now, load_insn, load_at_is, subtract_is}
+use Rattle.rz_machine.specs.Laws.Stored.{word}
+use Rattle.rz_machine.specs.Laws.States.{now}
+use Rattle.rz_sites.proofs.Steps.{load_insn, load_at_is, subtract_is}
 
 -- the new run's memory m and the state s that the old run has come to are the same but for RCX, which is kept at the scratch page
 pub record Saved (lay : Layout) (wm : Regions) (scratch : ℕ) (s t : Machine) (m : Regions) : Type 0 where

@@ -3,6 +3,4 @@ mod Checked
 mod Moved
 mod Simulated
 mod Sized
-mod Stored
 mod Steps
-mod Transfers

@@ -20,8 +20,9 @@ use Rattle.rz_machine.specs.Simulates.{InsnAt, HasCode, HasScratch, Follows}
 use Rattle.rz_machine.specs.Laws.Code.{step_code, after_range}
 use Rattle.rz_machine.specs.Laws.Comes.{decodes_to, step_is, Comes}
 use Rattle.rz_machine.specs.Laws.Steps.{step_heap}
-use Rattle.rz_sites.proofs.Stored.{IsOpen, is_open, allowed_write}
-use Rattle.rz_sites.proofs.Steps.{now, save_insn, save_is}
+use Rattle.rz_machine.specs.Laws.Stored.{IsOpen, is_open, allowed_write}
+use Rattle.rz_machine.specs.Laws.States.{now}
+use Rattle.rz_sites.proofs.Steps.{save_insn, save_is}
 
 -- ---- both runs end or go on
 

@@ -41,9 +41,10 @@ use Rattle.rz_machine.specs.Sequence.{save_at, load, load_at, add_to, check, sit
 use Rattle.rz_sites.specs.Site.{SitesSimulate}
 use Rattle.rz_sites.proofs.Checked.{Saved, Stands, stands, before_check, checked}
 use Rattle.rz_sites.proofs.Moved.{goes_on, both_end, none_after, after_more, insn_clear, Ready, ready_to, steps_by, open_word, saves}
-use Rattle.rz_sites.proofs.Steps.{now, fault_at, save_insn, load_insn, add_insn, loaded, load_is, load_at_is, popped_to, pop_is, drop_is, pushed, push_is}
-use Rattle.rz_sites.proofs.Stored.{word, IsOpen, eight, word_again, word_stays, word_stays_inside, alike_inside}
-use Rattle.rz_sites.proofs.Transfers.{jumped, jump_is, returned, return_is, called_by, called, call_is}
+use Rattle.rz_machine.specs.Laws.States.{now, fault_at}
+use Rattle.rz_sites.proofs.Steps.{save_insn, load_insn, add_insn, loaded, load_is, load_at_is, popped_to, pop_is, drop_is, pushed, push_is}
+use Rattle.rz_machine.specs.Laws.Stored.{word, IsOpen, eight, word_again, word_stays, word_stays_inside, alike_inside}
+use Rattle.rz_machine.specs.Laws.Transfers.{jumped, jump_is, returned, return_is, called_by, called, call_is}
 
 -- numbers of registers
 unequal : (i j : ℕ) → (i < j) ⊎ (j < i) → i ≢ j

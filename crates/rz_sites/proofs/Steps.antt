@@ -22,19 +22,8 @@ use Rattle.rz_exec.specs.Stack.{below_top, pop_effect}
 use Rattle.rz_exec.specs.Effect.{plain_effect}
 use Rattle.rz_machine.specs.declared.machine.Machine.{Machine}
 use Rattle.rz_machine.specs.State.{perform, end_of, after_effect}
-use Rattle.rz_sites.proofs.Stored.{word}
-
--- a state with other registers, flags, RIP and memory
-abbrev pub now : Machine → List ℕ → Flags → ℕ → Regions → Machine
-now t regs flags p m = record t { cpu = record { regs = regs; rip = p; flags = flags }; mem = m }
-
-abbrev pub fault_at : Exception → Machine → Machine
-fault_at x t = record t { end = Some (end_of x) }
-
--- ---- addresses
-
-absolute_is : (regs : List ℕ) (a : ℕ) → a < 2 ^ 31 → address regs (absolute a) ≡ a
-absolute_is regs a h = omega arith
+use Rattle.rz_machine.specs.Laws.States.{now, fault_at, absolute_is}
+use Rattle.rz_machine.specs.Laws.Stored.{word}
 
 abbrev from_register : ℕ → ℤ → Mem
 from_register r n = record { base = Some r; index = None; scale = 1; disp = n }

@@ -12,8 +12,8 @@ use Rattle.rz_machine.specs.declared.machine.Machine.{Machine}
 use Rattle.rz_machine.specs.declared.way.Transfer.TheVariants as transfer
 use Rattle.rz_machine.specs.Action.{transfer_effect}
 use Rattle.rz_machine.specs.State.{perform, after_effect}
-use Rattle.rz_sites.proofs.Stored.{word}
-use Rattle.rz_sites.proofs.Steps.{now, fault_at}
+use Rattle.rz_machine.specs.Laws.States.{now, fault_at}
+use Rattle.rz_machine.specs.Laws.Stored.{word}
 
 -- by the operand's word
 abbrev pub jumped : Place → Machine → Result ℕ Exception → Machine
