@@ -16,7 +16,7 @@ use product_rows::{DIVISIONS, PRODUCTS};
 use rz_alu::{arith, bit_test, div, double_shift, mul, scan, shift, unary};
 use rz_flags::{ArithOp, Cond, Flags, ScanOp, ShiftOp, UnaryOp, holds, to_word};
 use rz_num::Width::{self, W8, W16, W32, W64};
-use shift_rows::SHIFTS;
+use shift_rows::{CARRY_ROTATES, SHIFTS};
 
 const CF: u64 = 1;
 
@@ -130,7 +130,7 @@ fn one_operand(rt: HostRuntime) {
 fn shifts_and_rotates(rt: HostRuntime) {
     for (op, w, a, count, value, set) in SHIFTS.iter().copied() {
         let written = match op {
-            ShiftOp::Rol | ShiftOp::Ror => CF | OF,
+            ShiftOp::Rol | ShiftOp::Ror | ShiftOp::Rcl | ShiftOp::Rcr => CF | OF,
             ShiftOp::Shl | ShiftOp::Shr | ShiftOp::Sar => STATUS,
         };
         for before in [CLEAR, SET] {
@@ -142,8 +142,42 @@ fn shifts_and_rotates(rt: HostRuntime) {
 }
 
 #[test]
+fn rotates_with_carry(rt: HostRuntime) {
+    for (op, w, a, count, carry, value, set) in CARRY_ROTATES.iter().copied() {
+        for others in [CLEAR, SET] {
+            let before = Flags {
+                cf: carry,
+                ..others
+            };
+            let (result, flags) = shift(op, w, a, count, before);
+            assert_eq!(rt; result, value);
+            assert!(rt; are_written(flags, before, CF | OF, set));
+        }
+    }
+}
+
+// Counts that are the width plus 1, or a multiple of it.
+#[test]
+fn whole_turns_with_carry(rt: HostRuntime) {
+    use ShiftOp::{Rcl, Rcr};
+    for (w, count, top) in [
+        (W8, 9, 0x80),
+        (W8, 18, 0x80),
+        (W8, 27, 0x80),
+        (W16, 17, 0x8000),
+    ] {
+        for a in [1, top] {
+            for before in [CLEAR, SET] {
+                assert!(rt; shift(Rcl, w, a, count, before) == (a, before));
+                assert!(rt; shift(Rcr, w, a, count, before) == (a, before));
+            }
+        }
+    }
+}
+
+#[test]
 fn counts_that_leave_all(rt: HostRuntime) {
-    use ShiftOp::{Rol, Ror, Sar, Shl, Shr};
+    use ShiftOp::{Rcl, Rcr, Rol, Ror, Sar, Shl, Shr};
     for (w, count, top) in [
         (W8, 0, 0x80),
         (W8, 32, 0x80),
@@ -156,7 +190,7 @@ fn counts_that_leave_all(rt: HostRuntime) {
     ] {
         for a in [0, 1, top, w.greatest()] {
             for before in [CLEAR, SET] {
-                for op in [Rol, Ror, Shl, Shr, Sar] {
+                for op in [Rol, Ror, Rcl, Rcr, Shl, Shr, Sar] {
                     assert!(rt; shift(op, w, a, count, before) == (a, before));
                 }
             }

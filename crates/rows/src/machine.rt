@@ -10,7 +10,7 @@ use rz_machine::start::start;
 use rz_num::{Bytes, OutOfMemory};
 use rz_sys::event::Event;
 use rz_sys::input::Input;
-use rz_table::Profile1;
+use rz_table::Profile2;
 use std::alloc::{AllocError, Global};
 
 // The registers in the order of their numbers.
@@ -36,7 +36,7 @@ fn accepted(alloc: Global, file: &[u8]) -> Result<Elf, Fault> {
 
 fn add_run_of(alloc: Global, to: &mut Bytes, elf: &Elf, steps: u64) -> Result<(), OutOfMemory> {
     let mut machine = start(alloc, elf, &Input::empty(alloc))?;
-    let outcome = machine.run::<Profile1>(alloc, steps)?;
+    let outcome = machine.run::<Profile2>(alloc, steps)?;
     add_state(alloc, to, &machine, outcome)
 }
 

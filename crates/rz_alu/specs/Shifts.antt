@@ -6,9 +6,10 @@ use Rattle.rz_num.specs.declared.width.Width.TheVariants.{W8, W16, W32, W64}
 use Rattle.rz_num.specs.Width.{size, bits, low_bits}
 use Rattle.rz_num.specs.Products.{pair}
 use Rattle.rz_num.specs.Signs.{differ}
+use Rattle.rz_num.specs.Carry.{bit}
 use Rattle.rz_flags.specs.declared.Flags.{Flags}
 use Rattle.rz_flags.specs.declared.ShiftOp.{ShiftOp}
-use Rattle.rz_flags.specs.declared.ShiftOp.TheVariants.{Rol, Ror, Shl, Shr, Sar}
+use Rattle.rz_flags.specs.declared.ShiftOp.TheVariants.{Rol, Ror, Shl, Shr, Sar, Rcl, Rcr}
 use Rattle.rz_flags.specs.Word.{is_set}
 use Rattle.rz_alu.specs.Answer.{Answer}
 use Rattle.rz_alu.specs.Status.{flags_of, with_carry_overflow, top_bit}
@@ -22,6 +23,10 @@ used_count W64 count = count % 64
 
 -- The flags below are razor's own where the SDM leaves them open: OF after counts other than 1, CF of counts beyond the
 -- width, and AF.
+
+-- what a shift by a count of 0 leaves as it is, and by another one changes
+abbrev pub unless_zero : ℕ → ℕ → Flags → Answer → Answer
+unless_zero n a old x = if n == 0 then record { value = a; flags = old } else x
 
 -- ---- rotates
 
@@ -41,6 +46,28 @@ abbrev pub right_rotation : Width → ℕ → ℕ → Flags → Answer
 right_rotation w a n old =
     let r = rotation (n % bits w) (bits w - n % bits w) a in
     record { value = r; flags = with_carry_overflow (top_bit w r) (differ (top_bit w r) (is_set r (bits w - 2))) old }
+
+-- ---- rotates of CF and a number: CF stands above its top bit, and the count is taken modulo their bits. By 0 they leave
+-- all flags, which is razor's own, as OF is by other counts than 1
+
+abbrev pub with_carry : Width → ℕ → Bool → ℕ
+with_carry w a carry = bit carry * size w + a
+
+-- what stands there after it: the number, and CF
+abbrev pub carry_rotated : Width → ℕ → Bool → Flags → Answer
+carry_rotated w r overflow old = record { value = r % size w; flags = with_carry_overflow (is_set r (bits w)) overflow old }
+
+abbrev pub left_carry_rotation : Width → ℕ → ℕ → Flags → Answer
+left_carry_rotation w a n old =
+    let k = n % (bits w + 1) in
+    let r = rotation (bits w + 1 - k) k (with_carry w a old.cf) in
+    unless_zero k a old (carry_rotated w r (differ (is_set r (bits w - 1)) (is_set r (bits w))) old)
+
+abbrev pub right_carry_rotation : Width → ℕ → ℕ → Flags → Answer
+right_carry_rotation w a n old =
+    let k = n % (bits w + 1) in
+    let r = rotation k (bits w + 1 - k) (with_carry w a old.cf) in
+    unless_zero k a old (carry_rotated w r (differ (is_set r (bits w - 1)) (is_set r (bits w - 2))) old)
 
 -- ---- shifts
 
@@ -73,10 +100,8 @@ shift_by Ror w a n old = right_rotation w a n old
 shift_by Shl w a n old = left_shift w a n old
 shift_by Shr w a n old = right_shift w a n old
 shift_by Sar w a n old = signed_shift w a n old
-
--- what a shift by a count of 0 leaves as it is, and by another one changes
-abbrev pub unless_zero : ℕ → ℕ → Flags → Answer → Answer
-unless_zero n a old x = if n == 0 then record { value = a; flags = old } else x
+shift_by Rcl w a n old = left_carry_rotation w a n old
+shift_by Rcr w a n old = right_carry_rotation w a n old
 
 -- of any operand and count: they are cut to the width and masked
 abbrev pub shift : ShiftOp → Width → ℕ → ℕ → Flags → Answer

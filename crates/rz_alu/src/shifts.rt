@@ -2,7 +2,7 @@
 
 ghost use Rattle.std.specs.Prelude.{◌≡◌, ◌<◌, ◌≤◌, ◌+◌, ◌^◌};
 ghost use Rattle.rz_num.specs.Width.{size, bits};
-ghost use Rattle.rz_alu.specs.Shifts.{used_count, rotation, shift, left_rotation, right_rotation, left_shift, right_shift, sign_above, signed_shift};
+ghost use Rattle.rz_alu.specs.Shifts.{used_count, rotation, shift, left_rotation, right_rotation, left_shift, right_shift, sign_above, signed_shift, with_carry as with_carry_of, left_carry_rotation, right_carry_rotation};
 
 use crate::status::{flags_of, top_bit, with_carry_overflow};
 use rz_flags::{Flags, ShiftOp};
@@ -27,6 +27,8 @@ pub fn shift(op: ShiftOp, w: Width, a: u64, count: u8, flags: Flags) -> (u64, Fl
         ShiftOp::Shl => shift_left(w, a, n, flags),
         ShiftOp::Shr => shift_right(w, a, n, flags),
         ShiftOp::Sar => shift_signed(w, a, n, flags),
+        ShiftOp::Rcl => rotate_left_with_carry(w, a, n, flags),
+        ShiftOp::Rcr => rotate_right_with_carry(w, a, n, flags),
     }
 }
 
@@ -76,6 +78,48 @@ fn rotate_right(w: Width, a: u64, n: u32, flags: Flags) -> (u64, Flags)
     let cf = top_bit(w, value);
     let second = (value >> (w.bits() - 2)) % 2 == 1;
     (value, with_carry_overflow(cf, cf != second, flags))
+}
+
+// A number with CF above its top bit.
+fn with_carry(w: Width, a: u64, carry: bool) -> u128
+    requires { a < size w }
+    ensures value { result ≡ with_carry_of w a carry }
+    ensures low { result < 2 ^ (bits w + 1) }
+{
+    ((carry as u128) << w.bits()) + a as u128
+}
+
+fn rotate_left_with_carry(w: Width, a: u64, n: u32, flags: Flags) -> (u64, Flags)
+    requires { a < size w }
+    ensures value { result.0 ≡ (left_carry_rotation w a n flags).value }
+    ensures flags { result.1 ≡ (left_carry_rotation w a n flags).flags }
+{
+    let k = n % (w.bits() + 1);
+    if k == 0 {
+        return (a, flags);
+    }
+    let rotated = rotation(w.bits() + 1 - k, k, with_carry(w, a, flags.cf));
+    let value = mask(w, (rotated % (1 << 64)) as u64);
+    let cf = (rotated >> w.bits()) % 2 == 1;
+    let top = (rotated >> (w.bits() - 1)) % 2 == 1;
+    (value, with_carry_overflow(cf, top != cf, flags))
+}
+
+fn rotate_right_with_carry(w: Width, a: u64, n: u32, flags: Flags) -> (u64, Flags)
+    requires { a < size w }
+    ensures value { result.0 ≡ (right_carry_rotation w a n flags).value }
+    ensures flags { result.1 ≡ (right_carry_rotation w a n flags).flags }
+{
+    let k = n % (w.bits() + 1);
+    if k == 0 {
+        return (a, flags);
+    }
+    let rotated = rotation(k, w.bits() + 1 - k, with_carry(w, a, flags.cf));
+    let value = mask(w, (rotated % (1 << 64)) as u64);
+    let cf = (rotated >> w.bits()) % 2 == 1;
+    let top = (rotated >> (w.bits() - 1)) % 2 == 1;
+    let second = (rotated >> (w.bits() - 2)) % 2 == 1;
+    (value, with_carry_overflow(cf, top != second, flags))
 }
 
 #[inline(always)]

@@ -48,9 +48,10 @@ module _ (at : Level) (limit : ℕ) (from : Sources) where
   stayed P n a left stay = absurd (stay_not_left limit from.exe 1 from.inputs n a stay.stay left)
 
   -- what was said of one set of the level is said of another
-  reach_again : {A : Type 0} (P Q : Kept → Type 0) → ((one other : Kept) → P one → Q other → rip_reach_of decode_profile from.exe one ≡ rip_reach_of decode_profile from.exe other
-      → no_room_for decode_profile from.exe one ≡ no_room_for decode_profile from.exe other → A) → StayAnd at limit from P → StayAnd at limit from Q → A
-  reach_again P Q f g h =
+  reach_again : {A : Type 0} {P Q : Kept → Type 0} → StayAnd at limit from P → StayAnd at limit from Q
+      → ((one other : Kept) → P one → Q other → rip_reach_of decode_profile from.exe one ≡ rip_reach_of decode_profile from.exe other
+      → no_room_for decode_profile from.exe one ≡ no_room_for decode_profile from.exe other → A) → A
+  reach_again g h f =
       f g.kept h.kept g.fact h.fact (same_reach at limit from g.kept h.kept g.is h.is) (same_room at limit from g.kept h.kept g.is h.is)
 
   debloat_once : (st other : Status) → DebloatEnds at limit from st → DebloatEnds at limit from other → st ≡ other
@@ -61,19 +62,19 @@ module _ (at : Level) (limit : ℕ) (from : Sources) where
   debloat_once (status.LeftCode n a) _ g h = absurd h
   debloat_once (status.RipReach a) (status.LeftCode m b) g h = stayed _ m b h g
   debloat_once (status.RipReach a) (status.RipReach b) g h =
-      reach_again _ _ (λ one other p q reach room. ap (λ n. status.RipReach n) (one_value _ a b p (reach ∙ q))) g h
-  debloat_once (status.RipReach a) (status.NoRoom r) g h = reach_again _ _ (λ one other p q reach room. absurd (not_both _ a p (reach ∙ q.0))) g h
-  debloat_once (status.RipReach a) status.Ok g h = reach_again _ _ (λ one other p q reach room. absurd (not_both _ a p (reach ∙ q.0))) g h
+      reach_again g h (λ one other p q reach room. ap (λ n. status.RipReach n) (one_value _ a b p (reach ∙ q)))
+  debloat_once (status.RipReach a) (status.NoRoom r) g h = reach_again g h (λ one other p q reach room. absurd (not_both _ a p (reach ∙ q.0)))
+  debloat_once (status.RipReach a) status.Ok g h = reach_again g h (λ one other p q reach room. absurd (not_both _ a p (reach ∙ q.0)))
   debloat_once (status.RipReach a) _ g h = absurd h
   debloat_once (status.NoRoom q) (status.LeftCode m b) g h = stayed _ m b h g
-  debloat_once (status.NoRoom q) (status.RipReach b) g h = reach_again _ _ (λ one other p r reach room. absurd (not_both _ b (reach ∙ r) p.0)) g h
+  debloat_once (status.NoRoom q) (status.RipReach b) g h = reach_again g h (λ one other p r reach room. absurd (not_both _ b (reach ∙ r) p.0))
   debloat_once (status.NoRoom q) (status.NoRoom r) g h =
-      reach_again _ _ (λ one other p t reach room. ap (λ n. status.NoRoom n) (one_value _ q r p.1 (room ∙ t.1))) g h
-  debloat_once (status.NoRoom q) status.Ok g h = reach_again _ _ (λ one other p t reach room. absurd (not_both _ q p.1 (room ∙ t.1))) g h
+      reach_again g h (λ one other p t reach room. ap (λ n. status.NoRoom n) (one_value _ q r p.1 (room ∙ t.1)))
+  debloat_once (status.NoRoom q) status.Ok g h = reach_again g h (λ one other p t reach room. absurd (not_both _ q p.1 (room ∙ t.1)))
   debloat_once (status.NoRoom q) _ g h = absurd h
   debloat_once status.Ok (status.LeftCode m b) g h = stayed _ m b h g
-  debloat_once status.Ok (status.RipReach b) g h = reach_again _ _ (λ one other p r reach room. absurd (not_both _ b (reach ∙ r) p.0)) g h
-  debloat_once status.Ok (status.NoRoom r) g h = reach_again _ _ (λ one other p t reach room. absurd (not_both _ r (room ∙ t.1) p.1)) g h
+  debloat_once status.Ok (status.RipReach b) g h = reach_again g h (λ one other p r reach room. absurd (not_both _ b (reach ∙ r) p.0))
+  debloat_once status.Ok (status.NoRoom r) g h = reach_again g h (λ one other p t reach room. absurd (not_both _ r (room ∙ t.1) p.1))
   debloat_once status.Ok status.Ok g h = refl
   debloat_once status.Ok _ g h = absurd h
   debloat_once _ other g h = absurd g

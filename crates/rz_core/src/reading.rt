@@ -153,8 +153,8 @@ fn take_trace(alloc: Global, name: &Text, bytes: Bytes, files: &mut Files) -> Re
     ensures err { IfErr result (Untaken (taken_as Trace name.now (read_in files.old) bytes)) }
 {
     match read_trace(alloc, &bytes) {
-        Ok(trace) => {
-            files.trace = trace;
+        Ok(file) => {
+            files.trace = file.rec;
             Ok(())
         }
         Err(fault) => Err(trace_refusal(fault)),

@@ -61,14 +61,21 @@ fn rm_place(rule: Option<RmRule>, w: Width, rex: Option<u8>, next: u64, rm: &[u8
 fn repeat_in(prefixes: &[u8]) -> u8
     ensures { result ≡ repeat_among prefixes.now }
 {
-    if times(0xf3, prefixes) == 0 { 0 } else { 0xf3 }
+    if times(0xf3, prefixes) > 0 {
+        0xf3
+    } else if times(0xf2, prefixes) > 0 {
+        0xf2
+    } else {
+        0
+    }
 }
 
 fn rep_of(rule: F3Rule, repeat: u8) -> u8
     ensures { result ≡ rep_by rule repeat }
 {
     match rule {
-        F3Rule::Repeats => repeat,
+        F3Rule::Repeats if repeat == 0xf3 => repeat,
+        F3Rule::RepeatsBoth => repeat,
         _ => 0,
     }
 }

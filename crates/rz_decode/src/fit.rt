@@ -1,5 +1,5 @@
 ghost use Rattle.std.specs.Prelude.{◌≡◌, ◌≤◌, length};
-ghost use Rattle.rz_isa.specs.Spelling.{bit_w as bit_w_of, times as times_among, escape, is_met, most as most_of, most_66 as most_66_of, most_67 as most_67_of, takes_66 as takes_66_by, is_allowed as is_allowed_by, f3_demand, prefixes_fit as prefixes_fit_row, w_demand, b_demand, opcode_fits as opcode_fits_row, disp_len as disp_len_of, rm_len as rm_len_of, second as second_of, rule_fits as rule_fits_byte, width_of as width_by};
+ghost use Rattle.rz_isa.specs.Spelling.{bit_w as bit_w_of, times as times_among, escape, is_met, most as most_of, most_66 as most_66_of, most_67 as most_67_of, most_f0 as most_f0_of, most_f2 as most_f2_of, may_name_memory as may_name_memory_by, one_repeat as one_repeat_among, rm_is_memory as rm_is_memory_bytes, lock_fits as lock_fits_parts, takes_66 as takes_66_by, is_allowed as is_allowed_by, f3_demand, prefixes_fit as prefixes_fit_row, w_demand, b_demand, opcode_fits as opcode_fits_row, disp_len as disp_len_of, rm_len as rm_len_of, second as second_of, rule_fits as rule_fits_byte, width_of as width_by};
 ghost use Rattle.rz_isa.specs.Table.{same_map as same_maps};
 ghost use Rattle.rz_isa.specs.Decoded.{takes_rm as takes_rm_of, rm_part as rm_part_of, imm_part as imm_part_of, front_len as front_len_of, suits as suits_row};
 ghost use Rattle.rz_decode.specs.Calls.Views.{front_view};
@@ -40,6 +40,31 @@ fn most_67(row: &Row) -> usize
     }
 }
 
+fn most_f2(rule: F3Rule) -> usize
+    ensures { result ≡ most_f2_of rule }
+{
+    match rule {
+        F3Rule::RepeatsBoth => 1,
+        _ => 0,
+    }
+}
+
+fn may_name_memory(rule: Option<RmRule>) -> bool
+    ensures { result ≡ may_name_memory_by rule }
+{
+    matches!(rule, Some(RmRule::Any | RmRule::MemoryOnly))
+}
+
+fn most_f0(row: &Row) -> usize
+    ensures { result ≡ most_f0_of row.now }
+{
+    if row.lock && may_name_memory(row.rm) {
+        1
+    } else {
+        0
+    }
+}
+
 fn most(row: &Row, prefix: u8) -> usize
     ensures { result ≡ most_of row.now prefix }
 {
@@ -47,6 +72,8 @@ fn most(row: &Row, prefix: u8) -> usize
         0x2e | 0x3e => 1,
         0x66 => most_66(row),
         0x67 => most_67(row),
+        0xf0 => most_f0(row),
+        0xf2 => most_f2(row.f3),
         0xf3 => 1,
         _ => 0,
     }
@@ -70,10 +97,34 @@ fn f3_fits(rule: F3Rule, count: usize) -> bool
     }
 }
 
+// F2 and F3 don't stand together.
+fn one_repeat(prefixes: &[u8]) -> bool
+    ensures { result ≡ one_repeat_among prefixes.now }
+{
+    let f2 = times(0xf2, prefixes);
+    f2 <= 1 && times(0xf3, prefixes) <= 1 - f2
+}
+
 fn prefixes_fit(row: &Row, prefixes: &[u8]) -> bool
     ensures { result ≡ prefixes_fit_row row.now prefixes.now }
 {
-    is_allowed(row, prefixes) && f3_fits(row.f3, times(0xf3, prefixes))
+    is_allowed(row, prefixes) && f3_fits(row.f3, times(0xf3, prefixes)) && one_repeat(prefixes)
+}
+
+fn rm_is_memory(rm: &[u8]) -> bool
+    ensures { result ≡ rm_is_memory_bytes rm.now }
+{
+    match rm {
+        [] => true,
+        [m, ..] => *m / 64 != 3,
+    }
+}
+
+// Where F0 stands the ModRM byte names memory.
+fn lock_fits(prefixes: &[u8], rm: &[u8]) -> bool
+    ensures { result ≡ lock_fits_parts prefixes.now rm.now }
+{
+    times(0xf0, prefixes) == 0 || rm_is_memory(rm)
 }
 
 // ---- REX and the opcode (sections 2.2.1 and 2.1.2)
@@ -254,5 +305,6 @@ pub fn suits(row: &Row, f: &Front) -> bool
         && w_fits(row.size, bit_w(f.rex))
         && b_fits(row.op, row.map, f.opcode.byte, bit_b(f.rex))
         && takes_rm(row.rm, row.digit, f.opcode.rest)
+        && lock_fits(f.prefixes, f.opcode.rest)
         && front_len(row, f) <= 15
 }

@@ -26,7 +26,7 @@ pub struct Front<'a> {
 fn is_prefix(b: u8) -> bool
     ensures { result ≡ is_prefix_byte b }
 {
-    matches!(b, 0x2e | 0x3e | 0x66 | 0x67 | 0xf3)
+    matches!(b, 0x2e | 0x3e | 0x66 | 0x67 | 0xf0 | 0xf2 | 0xf3)
 }
 
 fn is_rex(b: u8) -> bool

@@ -24,6 +24,7 @@ use Rattle.rz_disasm.specs.Registers.{number_name, second_byte_name}
 use Rattle.rz_disasm.specs.Operands.{memory_text, place_text, address_text}
 use Rattle.rz_disasm.specs.Statements.{insn_text}
 use Rattle.rz_disasm.specs.Line.{line_text}
+use Rattle.rz_isa.specs.declared.instruction.Rep.TheVariants as reps
 
 abbrev reg : ℕ → Place
 reg n = places.Reg (R n)
@@ -112,6 +113,8 @@ moves : AreWorked (
     (insns.Pop (memory (Some 4) None 1 (pos 8)), codes "pop qword [rsp+0x8]") ∷
     (insns.Xchg W8 (memory (Some 3) None 1 (pos 0)) (High 2), codes "xchg byte [rbx], dh") ∷
     (insns.Xchg W64 (reg 3) (R 0), codes "xchg rbx, rax") ∷
+    (insns.CmpXchg W32 (memory (Some 7) None 1 (pos 0)) (R 1), codes "cmpxchg dword [rdi], ecx") ∷
+    (insns.Xadd W8 (reg 1) (High 3), codes "xadd cl, bh") ∷
     [])
 unfolding number_name second_byte_name memory_text place_text address_text digits
 moves = refl
@@ -209,6 +212,10 @@ lone : AreWorked (
     (insns.Stos W64 true, codes "rep stosq") ∷
     (insns.Movs W8 true, codes "rep movsb") ∷
     (insns.Stos W64 false, codes "stosq") ∷
+    (insns.Cmps W8 reps.WhileEqual, codes "repe cmpsb") ∷
+    (insns.Cmps W64 reps.No, codes "cmpsq") ∷
+    (insns.Scas W8 reps.WhileNot, codes "repne scasb") ∷
+    (insns.Scas W32 reps.WhileEqual, codes "repe scasd") ∷
     (insns.Flag flags.Clc, codes "clc") ∷
     (insns.Flag flags.Stc, codes "stc") ∷
     (insns.Flag flags.Cmc, codes "cmc") ∷

@@ -18,6 +18,8 @@ use Rattle.rz_flags.specs.declared.ScanOp.{ScanOp}
 use Rattle.rz_flags.specs.declared.ScanOp.TheVariants as scans
 use Rattle.rz_flags.specs.declared.FlagOp.{FlagOp}
 use Rattle.rz_flags.specs.declared.FlagOp.TheVariants as flags
+use Rattle.rz_isa.specs.declared.instruction.Rep.{Rep}
+use Rattle.rz_isa.specs.declared.instruction.Rep.TheVariants as reps
 
 -- the ending of a condition (volume 2, appendix B.1)
 abbrev pub cond_name : Cond → List ℕ
@@ -66,6 +68,8 @@ shift_name shifts.Ror = codes "ror"
 shift_name shifts.Shl = codes "shl"
 shift_name shifts.Shr = codes "shr"
 shift_name shifts.Sar = codes "sar"
+shift_name shifts.Rcl = codes "rcl"
+shift_name shifts.Rcr = codes "rcr"
 
 -- to the left or to the right
 abbrev pub double_shift_name : Bool → List ℕ
@@ -121,3 +125,9 @@ element_name W64 = codes "q"
 abbrev pub string_name : Bool → List ℕ → Width → List ℕ
 string_name true stem w = codes "rep " ++ (stem ++ element_name w)
 string_name false stem w = stem ++ element_name w
+
+-- a comparison of strings by its stem, and while what it repeats
+abbrev pub comparison_name : Rep → List ℕ → Width → List ℕ
+comparison_name reps.No stem w = stem ++ element_name w
+comparison_name reps.WhileEqual stem w = codes "repe " ++ (stem ++ element_name w)
+comparison_name reps.WhileNot stem w = codes "repne " ++ (stem ++ element_name w)

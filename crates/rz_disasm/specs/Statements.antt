@@ -7,7 +7,7 @@ use Rattle.rz_isa.specs.declared.instruction.Insn.{Insn}
 use Rattle.rz_isa.specs.declared.instruction.Insn.TheVariants as insns
 use Rattle.rz_disasm.specs.Registers.{number_name, register_name}
 use Rattle.rz_disasm.specs.Operands.{place_text, address_text, operand_text, count_text, index_text}
-use Rattle.rz_disasm.specs.Names.{cond_name, arith_name, unary_name, wide_name, shift_name, double_shift_name, bit_name, scan_name, flag_name, extend_name, convert_name, sign_fill_name, string_name}
+use Rattle.rz_disasm.specs.Names.{cond_name, arith_name, unary_name, wide_name, shift_name, double_shift_name, bit_name, scan_name, flag_name, extend_name, convert_name, sign_fill_name, string_name, comparison_name}
 
 -- operands with a comma and a space between them
 abbrev pub separated : List (List ℕ) → List ℕ
@@ -37,6 +37,8 @@ lone_text (insns.Convert w) = statement (convert_name w) []
 lone_text (insns.SignFill w) = statement (sign_fill_name w) []
 lone_text (insns.Movs w rep) = statement (string_name rep (codes "movs") w) []
 lone_text (insns.Stos w rep) = statement (string_name rep (codes "stos") w) []
+lone_text (insns.Cmps w rep) = statement (comparison_name rep (codes "cmps") w) []
+lone_text (insns.Scas w rep) = statement (comparison_name rep (codes "scas") w) []
 lone_text (insns.Flag op) = statement (flag_name op) []
 lone_text _ = []
 
@@ -83,4 +85,6 @@ insn_text (insns.Push src) = statement (codes "push") (operand_text W64 src ∷ 
 insn_text (insns.Pop dst) = statement (codes "pop") (place_text W64 dst ∷ [])
 insn_text (insns.Cmov cond w dst src) = statement (codes "cmov" ++ cond_name cond) (number_name w dst ∷ place_text w src ∷ [])
 insn_text (insns.Xchg w dst src) = statement (codes "xchg") (place_text w dst ∷ register_name w src ∷ [])
+insn_text (insns.CmpXchg w dst src) = statement (codes "cmpxchg") (place_text w dst ∷ register_name w src ∷ [])
+insn_text (insns.Xadd w dst src) = statement (codes "xadd") (place_text w dst ∷ register_name w src ∷ [])
 insn_text x = arithmetic_text x

@@ -76,6 +76,8 @@ pub fn shift_name(op: ShiftOp) -> &'static str
         ShiftOp::Shl => "shl",
         ShiftOp::Shr => "shr",
         ShiftOp::Sar => "sar",
+        ShiftOp::Rcl => "rcl",
+        ShiftOp::Rcr => "rcr",
     }
 }
 

@@ -12,7 +12,7 @@ use crate::names::{
     flag_name, scan_name, shift_name, sign_fill_name, unary_name, wide_name,
 };
 use crate::operand::Shown;
-use rz_isa::{BitIndex, Count, Insn, Operand, Place, Reg};
+use rz_isa::{BitIndex, Count, Insn, Operand, Place, Reg, Rep};
 use rz_num::Width;
 use std::fmt;
 
@@ -155,6 +155,32 @@ fn lone_statement(insn: &Insn) -> Statement
             element_name(w),
             Operands::Zero,
         ),
+        Insn::Cmps { w, rep: Rep::No } => Statement::with_ending(
+            "cmps",
+            element_name(w),
+            Operands::Zero,
+        ),
+        Insn::Cmps {
+            w,
+            rep: Rep::WhileEqual,
+        } => Statement::with_ending("repe cmps", element_name(w), Operands::Zero),
+        Insn::Cmps {
+            w,
+            rep: Rep::WhileNot,
+        } => Statement::with_ending("repne cmps", element_name(w), Operands::Zero),
+        Insn::Scas { w, rep: Rep::No } => Statement::with_ending(
+            "scas",
+            element_name(w),
+            Operands::Zero,
+        ),
+        Insn::Scas {
+            w,
+            rep: Rep::WhileEqual,
+        } => Statement::with_ending("repe scas", element_name(w), Operands::Zero),
+        Insn::Scas {
+            w,
+            rep: Rep::WhileNot,
+        } => Statement::with_ending("repne scas", element_name(w), Operands::Zero),
         Insn::Flag { op } => Statement::new(flag_name(op), Operands::Zero),
         _ => Statement::new("", Operands::Zero),
     }
@@ -312,6 +338,14 @@ pub fn statement_of(insn: &Insn) -> Statement
         ),
         Insn::Xchg { w, dst, src } => Statement::new(
             "xchg",
+            Operands::Two(Shown::Place(w, dst), shown_register(w, src)),
+        ),
+        Insn::CmpXchg { w, dst, src } => Statement::new(
+            "cmpxchg",
+            Operands::Two(Shown::Place(w, dst), shown_register(w, src)),
+        ),
+        Insn::Xadd { w, dst, src } => Statement::new(
+            "xadd",
             Operands::Two(Shown::Place(w, dst), shown_register(w, src)),
         ),
         _ => arithmetic_statement(insn),

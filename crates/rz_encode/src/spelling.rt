@@ -26,7 +26,7 @@ pub fn repeat_prefix(rule: F3Rule, rep: u8) -> u8
 {
     match rule {
         F3Rule::Required => 0xf3,
-        F3Rule::Repeats => rep,
+        F3Rule::Repeats | F3Rule::RepeatsBoth => rep,
         _ => 0,
     }
 }

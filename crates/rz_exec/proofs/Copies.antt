@@ -136,7 +136,7 @@ module _ (w : Width) (flags : Flags) (up : flags.df ≡ false) (r0 r2 r3 r4 r5 :
       let put : put_bytes m' (b + n) (bytes_at m' (a + n) s) ≡ put_bytes m b (bytes_at m a (n + s)) =
       ap (put_bytes m' (b + n)) (sym same) ∙ ap (λ x. put_bytes m' (b + x) ys) (sym len) ∙ sym (put_parts m b xs ys) ∙ ap (put_bytes m b) (sym split) in
       (λ i. iterate (each_time each) (c i) (frame (c i) a b) flags m)
-      ∙ next each (j + k) (frame (suc (j + k)) a b) flags m (whole (frame (j + k) (a + n) (b + n)) m') (one (j + k) a b m (omega arith) (omega arith) (omega arith) parts.0 read.0 write.0) refl
+      ∙ next (each_time each) (j + k) (frame (suc (j + k)) a b) flags m (whole (frame (j + k) (a + n) (b + n)) m') (one (j + k) a b m (omega arith) (omega arith) (omega arith) parts.0 read.0 write.0) refl refl
       ∙ ih
       ∙ (λ i. iterate (each_time each) k (frame k (from i) (to i)) flags (put i))
     where

@@ -18,6 +18,7 @@ use Rattle.rz_isa.specs.declared.instruction.Place.TheVariants as place
 use Rattle.rz_isa.specs.declared.instruction.Operand.TheVariants as operand
 use Rattle.rz_isa.specs.declared.instruction.Count.TheVariants as count
 use Rattle.rz_isa.specs.declared.instruction.BitIndex.TheVariants as index
+use Rattle.rz_isa.specs.declared.instruction.Rep.TheVariants as rep
 use Rattle.rz_isa.specs.declared.instruction.Insn.{Insn}
 use Rattle.rz_isa.specs.declared.instruction.Insn.TheVariants as insn
 use Rattle.rz_exec.specs.Form.{Completion, Memory, Own, Divide, Popped, carry, iterate, complete}
@@ -478,3 +479,68 @@ store_down = refl
 clear_direction : after (insn.Flag flag.Cld) (rax 1) (record carry_set { df = true }) ≡ whole (rax 1) carry_set
 unfolding after whole regs rax carry_set clear memory bytes plain_effect carry
 clear_direction = refl
+
+-- ---- rotates with carry
+
+-- a whole turn leaves the value and the flags
+turn_with_carry : after (insn.Shift shift.Rcl W8 (reg 0) (count.Imm 9)) (rax 0x1280) carry_set ≡ whole (rax 0x1280) carry_set
+unfolding after whole regs rax clear carry_set reg memory bytes plain_effect carry
+turn_with_carry = refl
+
+-- a count of 0 writes the same value, which is cut
+rotate_by_none : after (insn.Shift shift.Rcr W32 (reg 0) (count.Imm 0)) (rax 0xf_0000_0001) carry_set ≡ whole (rax 1) carry_set
+unfolding after whole regs rax clear carry_set reg memory bytes plain_effect carry
+rotate_by_none = refl
+
+-- ---- compare and exchange, exchange and add
+
+-- the destination is cut, and the accumulator left whole
+compare_equal : after (insn.CmpXchg W32 (reg 1) (R 2)) (regs 0xf_0000_0005 0xa_0000_0005 7 0 0 0 0) clear ≡ whole (regs 0xf_0000_0005 7 7 0 0 0 0) (record clear { zf = true; pf = even 0 })
+unfolding after even whole regs clear reg memory bytes plain_effect carry
+compare_equal = refl
+
+-- the accumulator is cut, and the destination left whole
+compare_unequal : after (insn.CmpXchg W32 (reg 1) (R 2)) (regs 0xf_0000_0005 0xa_0000_0006 7 0 0 0 0) clear ≡ whole (regs 6 0xa_0000_0006 7 0 0 0 0) (record clear { cf = true; pf = even 0xff; af = true; sf = true })
+unfolding after even whole regs clear reg memory bytes plain_effect carry
+compare_unequal = refl
+
+-- memory that isn't taken is written all the same
+compare_refused : after (insn.CmpXchg W8 (place.At 48) (R 1)) (rax 5) clear ≡ record (whole (rax 5) clear) { exception = Some (Memory 48) }
+unfolding after whole regs rax clear memory bytes plain_effect carry cell_at refused bytes_at
+compare_refused = refl
+
+-- of one register, the sum stays
+add_to_itself : after (insn.Xadd W32 (reg 0) (R 0)) (rax 0xf_0000_0003) clear ≡ whole (rax 6) (record clear { pf = even 6 })
+unfolding after even whole regs rax clear reg memory bytes plain_effect carry
+add_to_itself = refl
+
+add_halves : after (insn.Xadd W8 (reg 0) (High 0)) (rax 0x0201) clear ≡ whole (rax 0x0103) (record clear { pf = even 3 })
+unfolding after even whole regs rax clear reg memory bytes plain_effect carry
+add_halves = refl
+
+-- ---- comparisons of strings
+
+-- RCX is left; 3 less 2
+compare_down : after (insn.Cmps W8 rep.No) (regs 0 3 0 0 0 34 33) (record clear { df = true }) ≡ whole (regs 0 3 0 0 0 33 32) (record clear { df = true; pf = even 1 })
+unfolding after even whole regs clear memory bytes plain_effect carry cell_at refused bytes_at
+compare_down = refl
+
+-- four bytes of which the second differs: 2 less 0
+compare_while_equal : after (insn.Cmps W8 rep.WhileEqual) (regs 0 4 0 0 0 32 49) clear ≡ whole (regs 0 2 0 0 0 34 51) (record clear { pf = even 2 })
+unfolding after even whole regs clear memory bytes plain_effect carry iterate cell_at refused bytes_at
+compare_while_equal = refl
+
+-- the third byte is 3
+scan_while_not : after (insn.Scas W8 rep.WhileNot) (regs 3 10 0 0 0 0 32) clear ≡ whole (regs 3 7 0 0 0 0 35) (record clear { zf = true; pf = even 0 })
+unfolding after even whole regs clear memory bytes plain_effect carry iterate cell_at refused bytes_at
+scan_while_not = refl
+
+-- eleven bytes are passed, and the twelfth can't be read: the flags are those of 99 less 0
+scan_part : after (insn.Scas W8 rep.WhileNot) (regs 99 30 0 0 0 0 45) clear ≡ record (whole (regs 99 19 0 0 0 0 56) (record clear { pf = even 99 })) { exception = Some (Memory 56) }
+unfolding after even whole regs clear memory bytes plain_effect carry iterate cell_at refused bytes_at
+scan_part = refl
+
+-- none where RCX is 0, whatever RSI and RDI
+compare_none : after (insn.Cmps W64 rep.WhileEqual) (regs 0 0 0 0 0 0 0) clear ≡ whole (regs 0 0 0 0 0 0 0) clear
+unfolding after whole regs clear memory bytes plain_effect carry iterate
+compare_none = refl

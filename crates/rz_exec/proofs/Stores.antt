@@ -76,7 +76,7 @@ module _ (w : Width) (flags : Flags) (up : flags.df ≡ false) (r0 r2 r3 r4 r5 r
       let put : put_bytes m' (b + n) (copies j element) ≡ put_bytes m b (element ++ copies j element) =
       ap (λ x. put_bytes m' (b + x) (copies j element)) (sym len) ∙ sym (put_parts m b element (copies j element)) in
       (λ i. iterate (each_time each) (c i) (frame (c i) b) flags m)
-      ∙ next each (j + k) (frame (suc (j + k)) b) flags m (whole (frame (j + k) (b + n)) m') (one (j + k) b m (omega arith) (omega arith) write.0) refl
+      ∙ next (each_time each) (j + k) (frame (suc (j + k)) b) flags m (whole (frame (j + k) (b + n)) m') (one (j + k) b m (omega arith) (omega arith) write.0) refl refl
       ∙ many j k (b + n) m' (omega arith) (omega arith) write'
       ∙ (λ i. iterate (each_time each) k (frame k (to i)) flags (put i))
     where

@@ -20,9 +20,10 @@ use Rattle.rz_exec.specs.Stack.{push_effect, pop_effect, leave_effect, push_flag
 use Rattle.rz_exec.specs.Products.{wide_effect, imul2_effect, imul3_effect}
 use Rattle.rz_exec.specs.Shifts.{shift_effect, double_effect}
 use Rattle.rz_exec.specs.Conditions.{cmov_effect, set_effect}
-use Rattle.rz_exec.specs.Exchanges.{xchg_effect, bswap_effect}
+use Rattle.rz_exec.specs.Exchanges.{xchg_effect, cmpxchg_effect, xadd_effect, bswap_effect}
 use Rattle.rz_exec.specs.Bits.{bit_test_effect, scan_effect}
 use Rattle.rz_exec.specs.Strings.{movs_effect, stos_effect, elements}
+use Rattle.rz_exec.specs.Comparisons.{cmps_effect, scas_effect, comparisons}
 use Rattle.rz_exec.specs.FlagChanges.{flag_effect}
 
 -- what a plain instruction does from registers and flags. It sees no RIP, so that one that moves keeps its effect:
@@ -49,11 +50,15 @@ plain_effect (insns.Set cond dst) regs flags = Once (set_effect cond dst regs fl
 plain_effect (insns.Convert w) regs flags = Once (convert_effect w regs flags)
 plain_effect (insns.SignFill w) regs flags = Once (sign_fill_effect w regs flags)
 plain_effect (insns.Xchg w dst src) regs flags = Once (xchg_effect w dst src regs flags)
+plain_effect (insns.CmpXchg w dst src) regs flags = Once (cmpxchg_effect w dst src regs flags)
+plain_effect (insns.Xadd w dst src) regs flags = Once (xadd_effect w dst src regs flags)
 plain_effect (insns.Bswap w reg) regs flags = Once (bswap_effect w reg regs flags)
 plain_effect (insns.BitTest op w dst index) regs flags = Once (bit_test_effect op w dst index regs flags)
 plain_effect (insns.Scan op w dst src) regs flags = Once (scan_effect op w dst src regs flags)
 plain_effect (insns.Movs w rep) regs flags = elements (movs_effect w) rep regs flags
 plain_effect (insns.Stos w rep) regs flags = elements (stos_effect w) rep regs flags
+plain_effect (insns.Cmps w rep) regs flags = comparisons (cmps_effect w) rep regs flags
+plain_effect (insns.Scas w rep) regs flags = comparisons (scas_effect w) rep regs flags
 plain_effect (insns.Flag op) regs flags = Once (flag_effect op regs flags)
 plain_effect x regs flags = Once (to_regs regs flags)
 
@@ -107,6 +112,8 @@ is_named (insns.Set cond dst) = is_named_place dst
 is_named (insns.CallInd src) = is_named_place src
 is_named (insns.JmpInd src) = is_named_place src
 is_named (insns.Xchg w dst src) = is_named_place dst && is_named_reg src
+is_named (insns.CmpXchg w dst src) = is_named_place dst && is_named_reg src
+is_named (insns.Xadd w dst src) = is_named_place dst && is_named_reg src
 is_named (insns.Bswap w reg) = is_reg reg
 is_named (insns.BitTest op w dst index) = is_named_place dst && is_named_index index
 is_named (insns.Scan op w dst src) = is_reg dst && is_named_place src

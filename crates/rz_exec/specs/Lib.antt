@@ -11,6 +11,7 @@ pub mod Conditions
 pub mod Exchanges
 pub mod Bits
 pub mod Strings
+pub mod Comparisons
 pub mod FlagChanges
 pub mod Effect
 pub mod Fault

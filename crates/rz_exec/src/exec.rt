@@ -9,12 +9,12 @@ ghost use Rattle.rz_exec.specs.Fault.{completion, plain_completion};
 
 use crate::state::{Cpu, Fault};
 use crate::{
-    arithmetic, bits, conditions, exchanges, flag_changes, moves, products, repeats, shifts, stack,
+    arithmetic, bits, comparisons, conditions, exchanges, flag_changes, moves, products, repeats, shifts, stack,
     strings,
 };
 use rz_flags::ArithOp;
 use rz_image::memory::Memory;
-use rz_isa::Insn;
+use rz_isa::{Insn, Rep};
 
 #[tactic(auto, unfolding(crate::specs::Effect::plain_effect, crate::specs::Form::carry))]
 #[inline(always)]
@@ -70,6 +70,8 @@ fn exec(insn: &Insn, cpu: &mut Cpu, mem: &mut Memory) -> Result<(), Fault>
             Ok(())
         }
         Insn::Xchg { w, dst, src } => exchanges::xchg(*w, dst, *src, cpu, mem),
+        Insn::CmpXchg { w, dst, src } => exchanges::cmpxchg(*w, dst, *src, cpu, mem),
+        Insn::Xadd { w, dst, src } => exchanges::xadd(*w, dst, *src, cpu, mem),
         Insn::Bswap { w, reg } => {
             exchanges::bswap(*w, *reg, &mut cpu.regs);
             Ok(())
@@ -80,6 +82,10 @@ fn exec(insn: &Insn, cpu: &mut Cpu, mem: &mut Memory) -> Result<(), Fault>
         Insn::Movs { w, rep: true } => repeats::rep_movs(*w, cpu, mem),
         Insn::Stos { w, rep: false } => strings::stos(*w, false, cpu, mem),
         Insn::Stos { w, rep: true } => repeats::rep_stos(*w, cpu, mem),
+        Insn::Cmps { w, rep: Rep::No } => comparisons::cmps(*w, false, cpu, mem),
+        Insn::Cmps { w, rep } => comparisons::rep_cmps(*w, *rep, cpu, mem),
+        Insn::Scas { w, rep: Rep::No } => comparisons::scas(*w, false, cpu, mem),
+        Insn::Scas { w, rep } => comparisons::rep_scas(*w, *rep, cpu, mem),
         Insn::Flag { op } => {
             cpu.flags = flag_changes::changed(*op, cpu.flags);
             Ok(())

@@ -3,6 +3,7 @@
 
 mod arithmetic;
 mod bits;
+mod comparisons;
 mod conditions;
 mod exchanges;
 mod exec;

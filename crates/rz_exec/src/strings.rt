@@ -13,13 +13,13 @@ use rz_flags::Flags;
 use rz_image::memory::Memory;
 use rz_num::Width;
 
-const RAX: u8 = 0;
+pub(crate) const RAX: u8 = 0;
 
 const RCX: u8 = 1;
 
-const RSI: u8 = 6;
+pub(crate) const RSI: u8 = 6;
 
-const RDI: u8 = 7;
+pub(crate) const RDI: u8 = 7;
 
 pub(crate) fn byte_count(w: Width) -> u64
     ensures { result ≡ byte_count_of w }
@@ -33,7 +33,7 @@ pub(crate) fn byte_count(w: Width) -> u64
 }
 
 // Moves a pointer register by the width in bytes, down where DF is set.
-fn move_on(w: Width, flags: Flags, n: u8, regs: &mut [u64; 16])
+pub(crate) fn move_on(w: Width, flags: Flags, n: u8, regs: &mut [u64; 16])
     requires { IsTrue (is_reg n) }
     ensures { regs.new ≡ moved w flags n regs.old }
 {
@@ -47,7 +47,7 @@ fn move_on(w: Width, flags: Flags, n: u8, regs: &mut [u64; 16])
 }
 
 // Counts RCX down in a repeat.
-fn count_down(rep: bool, regs: &mut [u64; 16])
+pub(crate) fn count_down(rep: bool, regs: &mut [u64; 16])
     ensures regs { regs.new ≡ counted rep regs.old }
     ensures count { IsTrue rep → get_or regs.new 1 0 ≡ get_or regs.old 1 0 - 1 }
 {

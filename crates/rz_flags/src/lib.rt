@@ -79,6 +79,8 @@ pub enum ShiftOp {
     Shl,
     Shr,
     Sar,
+    Rcl,
+    Rcr,
 }
 
 /// What a bit test does with the bit after it was copied to CF.

@@ -10,7 +10,7 @@ use Rattle.rz_isa.specs.declared.rows.F3Rule.TheVariants as f3s
 use Rattle.rz_isa.specs.declared.rows.RmRule.{RmRule}
 use Rattle.rz_isa.specs.declared.rows.Size.{Size}
 use Rattle.rz_isa.specs.declared.rows.Size.TheVariants as sizes
-use Rattle.rz_isa.specs.Spelling.{Parts, is_prefix, rex_bytes, escape, is_met, times, prefixes_fit, w_demand, b_demand, opcode_fits, rule_fits, rm_len, second, imm_len, width_of, bit_w, bit_b}
+use Rattle.rz_isa.specs.Spelling.{Parts, is_prefix, rex_bytes, escape, is_met, times, prefixes_fit, lock_fits, w_demand, b_demand, opcode_fits, rule_fits, rm_len, second, imm_len, width_of, bit_w, bit_b}
 use Rattle.rz_isa.specs.Reading.{Opcode, skip_while, rex_at, behind_rex}
 use Rattle.rz_isa.specs.Table.{same_map}
 use Rattle.rz_isa.specs.Fields.{fields, build_op}
@@ -83,7 +83,7 @@ takes_rm _ digit rest = true
 abbrev pub suits : Row → Front → Bool
 suits row f =
     same_map row.map f.opcode.map && opcode_fits row f.opcode.byte && prefixes_fit row f.prefixes && is_met (w_demand row.size) (bit_w f.rex) && is_met (b_demand row.op row.map f.opcode.byte) (bit_b f.rex)
-    && takes_rm row.rm row.digit f.opcode.rest && nat_le (front_len row f) 15
+    && takes_rm row.rm row.digit f.opcode.rest && lock_fits f.prefixes f.opcode.rest && nat_le (front_len row f) 15
 
 abbrev pub serves : List ℕ → Row → Bool
 serves bytes row = suits row (front_at row bytes)

@@ -26,6 +26,8 @@ use Rattle.rz_isa.specs.declared.instruction.Count.{Count}
 use Rattle.rz_isa.specs.declared.instruction.Count.TheVariants as counts
 use Rattle.rz_isa.specs.declared.instruction.BitIndex.{BitIndex}
 use Rattle.rz_isa.specs.declared.instruction.BitIndex.TheVariants as indexes
+use Rattle.rz_isa.specs.declared.instruction.Rep.{Rep}
+use Rattle.rz_isa.specs.declared.instruction.Rep.TheVariants as reps
 use Rattle.rz_isa.specs.declared.spelled.Fields.{Fields}
 use Rattle.rz_isa.specs.Number.{number, signed, extended_to, displaced_by}
 use Rattle.rz_isa.specs.Spelling.{Parts, bit_r, bit_x, bit_b, second, times, width_at}
@@ -113,10 +115,11 @@ imm_of _ w next bs = number bs
 
 -- the byte of the repeat prefix among the prefixes, 0 where none stands
 abbrev pub repeat_in : List ℕ → ℕ
-repeat_in ps = if times 0xf3 ps == 0 then 0 else 0xf3
+repeat_in ps = if nat_lt 0 (times 0xf3 ps) then 0xf3 else if nat_lt 0 (times 0xf2 ps) then 0xf2 else 0
 
 abbrev pub rep_of : F3Rule → ℕ → ℕ
-rep_of f3s.Repeats b = b
+rep_of f3s.Repeats b = if b == 0xf3 then b else 0
+rep_of f3s.RepeatsBoth b = b
 rep_of _ b = 0
 
 abbrev pub fields : Row → Parts → ℕ → Fields
@@ -162,8 +165,12 @@ abbrev pub index_at : Letter → Fields → BitIndex
 index_at letters.Imm f = indexes.Imm (f.imm % 2 ^ 8)
 index_at l f = indexes.Reg (number_at l f)
 
+-- F3 repeats while what is compared is equal, F2 while it is not
+abbrev pub repeat_of : ℕ → Rep
+repeat_of n = if n == 0xf3 then reps.WhileEqual else if n == 0xf2 then reps.WhileNot else reps.No
+
 abbrev pub is_rep : ℕ → Bool
-is_rep n = nat_lt 0 n
+is_rep n = n == 0xf3
 
 abbrev pub build_op : Op → Fields → Insn
 build_op (ops.Arith o d s) f = insns.Arith o f.w (place_at d f) (operand_at s f)
@@ -194,12 +201,16 @@ build_op ops.Ret f = insns.Ret (f.imm % 2 ^ 16)
 build_op ops.Convert f = insns.Convert f.w
 build_op ops.SignFill f = insns.SignFill f.w
 build_op (ops.Xchg d s) f = insns.Xchg f.w (place_at d f) (reg_at s f)
+build_op (ops.CmpXchg d s) f = insns.CmpXchg f.w (place_at d f) (reg_at s f)
+build_op (ops.Xadd d s) f = insns.Xadd f.w (place_at d f) (reg_at s f)
 build_op ops.Nop f = insns.Nop
 build_op (ops.Bswap d) f = insns.Bswap f.w (number_at d f)
 build_op (ops.BitTest o d i) f = insns.BitTest o f.w (place_at d f) (index_at i f)
 build_op (ops.Scan o d s) f = insns.Scan o f.w (number_at d f) (place_at s f)
 build_op ops.Movs f = insns.Movs f.w (is_rep f.rep)
 build_op ops.Stos f = insns.Stos f.w (is_rep f.rep)
+build_op ops.Cmps f = insns.Cmps f.w (repeat_of f.rep)
+build_op ops.Scas f = insns.Scas f.w (repeat_of f.rep)
 build_op (ops.Flag o) f = insns.Flag o
 build_op ops.Syscall f = insns.Syscall
 build_op ops.Ud2 f = insns.Ud2

@@ -38,6 +38,8 @@ use Rattle.rz_isa.specs.declared.instruction.Count.{Count}
 use Rattle.rz_isa.specs.declared.instruction.Count.TheVariants as counts
 use Rattle.rz_isa.specs.declared.instruction.BitIndex.{BitIndex}
 use Rattle.rz_isa.specs.declared.instruction.BitIndex.TheVariants as indexes
+use Rattle.rz_isa.specs.declared.instruction.Rep.{Rep}
+use Rattle.rz_isa.specs.declared.instruction.Rep.TheVariants as reps
 use Rattle.rz_isa.specs.declared.spelled.Fields.{Fields}
 use Rattle.rz_isa.specs.Fields.{letter_width}
 use Rattle.rz_isa.specs.Having.{can_have, is_first}
@@ -143,6 +145,8 @@ same_shift shifts.Ror shifts.Ror = true
 same_shift shifts.Shl shifts.Shl = true
 same_shift shifts.Shr shifts.Shr = true
 same_shift shifts.Sar shifts.Sar = true
+same_shift shifts.Rcl shifts.Rcl = true
+same_shift shifts.Rcr shifts.Rcr = true
 same_shift _ _ = false
 
 abbrev pub same_bit : BitOp → BitOp → Bool
@@ -169,6 +173,11 @@ same_change changes.Std changes.Std = true
 same_change _ _ = false
 
 -- ---- by the operation
+
+abbrev pub repeat_byte : Rep → ℕ
+repeat_byte reps.No = 0
+repeat_byte reps.WhileEqual = 0xf3
+repeat_byte reps.WhileNot = 0xf2
 
 abbrev pub rep_byte : Bool → ℕ
 rep_byte rep = if rep then 0xf3 else 0
@@ -204,12 +213,16 @@ found_in ops.Ret (insns.Ret pop) f = Some (record f { imm = pop })
 found_in ops.Convert (insns.Convert w) f = Some (record f { w = w })
 found_in ops.SignFill (insns.SignFill w) f = Some (record f { w = w })
 found_in (ops.Xchg d s) (insns.Xchg w dst src) f = option_and_then (with_reg s src) (with_place d dst (record f { w = w }))
+found_in (ops.CmpXchg d s) (insns.CmpXchg w dst src) f = option_and_then (with_reg s src) (with_place d dst (record f { w = w }))
+found_in (ops.Xadd d s) (insns.Xadd w dst src) f = option_and_then (with_reg s src) (with_place d dst (record f { w = w }))
 found_in ops.Nop insns.Nop f = Some f
 found_in (ops.Bswap d) (insns.Bswap w reg) f = with_number d reg (record f { w = w })
 found_in (ops.BitTest o d i) (insns.BitTest p w dst index) f = if same_bit o p then option_and_then (with_index i index) (with_place d dst (record f { w = w })) else None
 found_in (ops.Scan o d s) (insns.Scan p w dst src) f = if same_scan o p then option_and_then (with_place s src) (with_number d dst (record f { w = w })) else None
 found_in ops.Movs (insns.Movs w rep) f = Some (record f { w = w; rep = rep_byte rep })
 found_in ops.Stos (insns.Stos w rep) f = Some (record f { w = w; rep = rep_byte rep })
+found_in ops.Cmps (insns.Cmps w rep) f = Some (record f { w = w; rep = repeat_byte rep })
+found_in ops.Scas (insns.Scas w rep) f = Some (record f { w = w; rep = repeat_byte rep })
 found_in (ops.Flag o) (insns.Flag p) f = if same_change o p then Some f else None
 found_in ops.Syscall insns.Syscall f = Some f
 found_in ops.Ud2 insns.Ud2 f = Some f

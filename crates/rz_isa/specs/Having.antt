@@ -149,10 +149,11 @@ has_imm (Some imms.J32) w n = nat_lt n (2 ^ 64)
 
 -- the byte of a repeat prefix, or 0
 abbrev pub is_repeat : ℕ → Bool
-is_repeat n = n == 0 || n == 0xf3
+is_repeat n = n == 0 || n == 0xf2 || n == 0xf3
 
 abbrev pub has_rep : F3Rule → ℕ → Bool
-has_rep f3s.Repeats n = is_repeat n
+has_rep f3s.Repeats n = n == 0 || n == 0xf3
+has_rep f3s.RepeatsBoth n = is_repeat n
 has_rep _ n = n == 0
 
 -- ---- REX

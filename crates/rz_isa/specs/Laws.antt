@@ -7,6 +7,7 @@ pub mod Front
 pub mod Inverse
 pub mod OneRow
 pub mod Parts
+pub mod Prefixed
 pub mod Read
 pub mod Served
 pub mod Tests

@@ -13,6 +13,7 @@ pub mod Suited
 pub mod Emitted
 pub mod Targets
 pub mod Decoded
+pub mod Locked
 pub mod DecodedLaws
 pub mod Class
 pub mod Index

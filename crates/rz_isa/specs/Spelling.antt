@@ -55,7 +55,7 @@ clash _ _ = false
 -- ---- legacy prefixes (volume 2, section 2.1.1)
 
 abbrev pub is_prefix : ℕ → Bool
-is_prefix b = b == 0x2e || b == 0x3e || b == 0x66 || b == 0x67 || b == 0xf3
+is_prefix b = b == 0x2e || b == 0x3e || b == 0x66 || b == 0x67 || b == 0xf0 || b == 0xf2 || b == 0xf3
 
 abbrev pub times : ℕ → List ℕ → ℕ
 times b ps = count_by (λ x. x == b) ps
@@ -77,12 +77,28 @@ most_66 row = if not (is_one row.map) && row.opcode == 0x1f then 15 else if take
 abbrev pub most_67 : Row → ℕ
 most_67 row = if is_one row.map && row.opcode == 0xe8 then 1 else 0
 
+-- F2 stands on a row that both repeat prefixes repeat
+abbrev pub most_f2 : F3Rule → ℕ
+most_f2 f3s.RepeatsBoth = 1
+most_f2 _ = 0
+
+-- whether some ModRM byte that the row takes names memory
+abbrev pub may_name_memory : Option RmRule → Bool
+may_name_memory (Some rules.Any) = true
+may_name_memory (Some rules.MemoryOnly) = true
+may_name_memory _ = false
+
+abbrev pub most_f0 : Row → ℕ
+most_f0 row = if row.lock && may_name_memory row.rm then 1 else 0
+
 -- how often a byte may stand before a row's opcode
 abbrev pub most : Row → ℕ → ℕ
 most row b =
     if b == 0x2e || b == 0x3e then 1
     else if b == 0x66 then most_66 row
     else if b == 0x67 then most_67 row
+    else if b == 0xf0 then most_f0 row
+    else if b == 0xf2 then most_f2 row.f3
     else if b == 0xf3 then 1
     else 0
 
@@ -96,8 +112,20 @@ f3_demand _ = None
 abbrev pub is_allowed : Row → List ℕ → Bool
 is_allowed row ps = list_all (λ b. nat_le (times b ps) (most row b)) ps
 
+-- F2 and F3 don't stand together
+abbrev pub one_repeat : List ℕ → Bool
+one_repeat ps = nat_le (times 0xf2 ps + times 0xf3 ps) 1
+
 abbrev pub prefixes_fit : Row → List ℕ → Bool
-prefixes_fit row ps = is_allowed row ps && is_met (f3_demand row.f3) (times 0xf3 ps)
+prefixes_fit row ps = is_allowed row ps && is_met (f3_demand row.f3) (times 0xf3 ps) && one_repeat ps
+
+-- where F0 stands the ModRM byte names memory
+abbrev pub rm_is_memory : List ℕ → Bool
+rm_is_memory [] = true
+rm_is_memory (m ∷ rest) = not (m / 64 == 3)
+
+abbrev pub lock_fits : List ℕ → List ℕ → Bool
+lock_fits ps rm = times 0xf0 ps == 0 || rm_is_memory rm
 
 -- ---- REX (volume 2, section 2.2.1)
 
@@ -206,6 +234,7 @@ imm_len (Some imms.J32) w = 4
 
 pub record Fits (row : Row) (p : Parts) : Type 0 where
   pub prefixes : IsTrue (prefixes_fit row p.prefixes)
+  pub lock : IsTrue (lock_fits p.prefixes p.rm)
   pub rex : IsTrue (rex_fits p.rex)
   pub w : IsTrue (is_met (w_demand row.size) (bit_w p.rex))
   pub opcode : IsTrue (opcode_fits row p.opcode)

@@ -41,6 +41,8 @@ letters_of (ops.Set d) = d ∷ []
 letters_of (ops.CallInd s) = s ∷ []
 letters_of (ops.JmpInd s) = s ∷ []
 letters_of (ops.Xchg d s) = d ∷ (s ∷ [])
+letters_of (ops.CmpXchg d s) = d ∷ (s ∷ [])
+letters_of (ops.Xadd d s) = d ∷ (s ∷ [])
 letters_of (ops.Bswap d) = d ∷ []
 letters_of (ops.BitTest o d i) = d ∷ (i ∷ [])
 letters_of (ops.Scan o d s) = d ∷ (s ∷ [])
@@ -109,8 +111,42 @@ is_repeats _ = false
 abbrev pub stands_alone_at : Row → ℕ → Bool
 stands_alone_at r o = not (opcode_fits r o) || r.span == 1
 
+-- the operations that F2 and F3 repeat in two ways
+abbrev pub has_two_repeats : Op → Bool
+has_two_repeats ops.Cmps = true
+has_two_repeats ops.Scas = true
+has_two_repeats _ = false
+
+abbrev pub is_repeats_both : F3Rule → Bool
+is_repeats_both f3s.RepeatsBoth = true
+is_repeats_both _ = false
+
+-- the letter of the place that an operation writes
+abbrev pub destination_of : Op → Option Letter
+destination_of (ops.Arith o d s) = Some d
+destination_of (ops.Mov d s) = Some d
+destination_of (ops.Pop d) = Some d
+destination_of (ops.Unary o d) = Some d
+destination_of (ops.Shift o d c) = Some d
+destination_of (ops.DoubleShift o d s c) = Some d
+destination_of (ops.Set d) = Some d
+destination_of (ops.Xchg d s) = Some d
+destination_of (ops.CmpXchg d s) = Some d
+destination_of (ops.Xadd d s) = Some d
+destination_of (ops.BitTest o d i) = Some d
+destination_of _ = None
+
+abbrev pub is_rm_letter : Option Letter → Bool
+is_rm_letter (Some letters.E) = true
+is_rm_letter (Some letters.M) = true
+is_rm_letter _ = false
+
+-- where F0 may stand the destination is in the ModRM byte
+abbrev pub lock_suits : Row → Bool
+lock_suits r = not r.lock || is_rm_letter (destination_of r.op)
+
 abbrev pub prefixes_suit : Row → Bool
-prefixes_suit r = if is_one r.map then stands_alone_at r 0xe8 else stands_alone_at r 0x1f
+prefixes_suit r = (if is_one r.map then stands_alone_at r 0xe8 else stands_alone_at r 0x1f) && same_truth (has_two_repeats r.op) (is_repeats_both r.f3) && lock_suits r
 
 -- an indirect call or jump reads 64 bits
 abbrev pub is_indirect : Op → Bool

@@ -1,12 +1,14 @@
-use Rattle.std.specs.Prelude.{ℕ, zero, suc, ◌≡◌, ◌+◌, ◌-◌, ◌≤◌, ◌<◌, ◌==◌, max, min, Bool, true, false, not, ◌&&◌, ◌||◌, List, [], ◌∷◌, ◌++◌, length, Option, Some, None, IsSome, slice_get}
-use Rattle.std.specs.List.{list_all}
+use Rattle.std.specs.Prelude.{ℕ, zero, suc, ◌≡◌, ◌+◌, ◌-◌, ◌≤◌, ◌<◌, ◌==◌, max, min, Bool, true, false, not, ◌&&◌, ◌||◌, List, [], ◌∷◌, ◌++◌, length, Option, Some, None, IsSome, slice_get, if◌then◌else◌}
+use Rattle.std.specs.List.{list_all, take_while}
 use Rattle.rz_isa.specs.declared.rows.Row.{Row}
 use Rattle.rz_isa.specs.declared.rows.OpMap.{OpMap}
 use Rattle.rz_isa.specs.declared.rows.OpMap.TheVariants as maps
 use Rattle.rz_isa.specs.declared.rows.RmRule.{RmRule}
 use Rattle.rz_isa.specs.declared.rows.RmRule.TheVariants as rules
 use Rattle.rz_isa.specs.declared.instruction.Insn.{Insn}
-use Rattle.rz_isa.specs.Spelling.{Parts, SpelledBy, is_prefix, is_rex, clash, f3_demand, w_demand, b_demand}
+use Rattle.rz_isa.specs.declared.instruction.Insn.TheVariants as insns
+use Rattle.rz_isa.specs.declared.instruction.Rep.TheVariants as reps
+use Rattle.rz_isa.specs.Spelling.{Parts, SpelledBy, is_prefix, is_rex, times, clash, f3_demand, w_demand, b_demand}
 use Rattle.rz_isa.specs.declared.rows.Form.{Form}
 use Rattle.rz_isa.specs.Spells.{RowSpells, Spells}
 use Rattle.rz_isa.specs.Canonical.{chosen, canonical}
@@ -96,3 +98,18 @@ HasChosen rows = (x : Insn) (form : Form) (m : ℕ) (q : Row) → slice_get rows
 abbrev pub CanonicalSpells : List Row → Type 0
 CanonicalSpells rows = (x : Insn) (at : ℕ) (form : Form) (s : List ℕ) → canonical rows x at form ≡ Some s
     → (n : ℕ) × (IsCanonicalRow rows form x n × ((row : Row) → slice_get rows n ≡ Some row → RowSpells row s at x))
+
+-- a comparison of strings that repeats while what is compared is not equal
+abbrev pub is_while_not : Insn → Bool
+is_while_not (insns.Cmps w reps.WhileNot) = true
+is_while_not (insns.Scas w reps.WhileNot) = true
+is_while_not x = false
+
+-- no F0 stands, and F2 exactly for such a comparison (volume 2, section 2.1.1)
+pub record PlainPrefixes (x : Insn) (s : List ℕ) : Type 0 where
+  pub no_lock : times 0xf0 (take_while is_prefix s) ≡ 0
+  pub while_not : times 0xf2 (take_while is_prefix s) ≡ (if is_while_not x then 1 else 0)
+
+-- so in a canonical spelling
+abbrev pub CanonicalPrefixes : List Row → Type 0
+CanonicalPrefixes rows = (x : Insn) (at : ℕ) (form : Form) (s : List ℕ) → canonical rows x at form ≡ Some s → PlainPrefixes x s

@@ -3,10 +3,10 @@ ghost use Rattle.rz_isa.specs.Regular.{is_regular};
 ghost use Rattle.rz_isa.specs.Spells.{Builds, NoneBuilds};
 ghost use Rattle.rz_isa.specs.declared.rows.Op.TheVariants as ops;
 ghost use Rattle.std.specs.Option.{option_and_then};
-ghost use Rattle.rz_isa.specs.Finding.{with_place as with_place_at, with_operand as with_operand_at, with_reg as with_reg_at, with_number as with_number_at, with_count as with_count_at, with_index as with_index_at, found_in as found_from, rep_byte as rep_byte_of, least_width as least_width_of, least_place as least_place_of, least as least_of, found};
+ghost use Rattle.rz_isa.specs.Finding.{with_place as with_place_at, with_operand as with_operand_at, with_reg as with_reg_at, with_number as with_number_at, with_count as with_count_at, with_index as with_index_at, found_in as found_from, rep_byte as rep_byte_of, repeat_byte as repeat_byte_of, least_width as least_width_of, least_place as least_place_of, least as least_of, found};
 
 use crate::having::{can_have, is_first};
-use crate::instruction::{BitIndex, Count, Insn, Mem, Operand, Place, Reg};
+use crate::instruction::{BitIndex, Count, Insn, Mem, Operand, Place, Reg, Rep};
 use crate::rows::{Letter, Op, RmRule, Row, Size};
 use crate::spelled::{Fields, letter_width};
 use rz_flags::{ArithOp, BitOp, ScanOp, ShiftOp, UnaryOp, WideOp};
@@ -371,6 +371,24 @@ fn xchg_fields(d: Letter, s: Letter, insn: &Insn, f: Fields) -> Option<Fields>
     }
 }
 
+fn cmpxchg_fields(d: Letter, s: Letter, insn: &Insn, f: Fields) -> Option<Fields>
+    ensures { result ≡ found_from (ops.CmpXchg d s) insn.now f }
+{
+    match *insn {
+        Insn::CmpXchg { w, dst, src } => with_place_and_reg(d, dst, s, src, Fields { w, ..f }),
+        _ => None,
+    }
+}
+
+fn xadd_fields(d: Letter, s: Letter, insn: &Insn, f: Fields) -> Option<Fields>
+    ensures { result ≡ found_from (ops.Xadd d s) insn.now f }
+{
+    match *insn {
+        Insn::Xadd { w, dst, src } => with_place_and_reg(d, dst, s, src, Fields { w, ..f }),
+        _ => None,
+    }
+}
+
 fn bswap_fields(d: Letter, insn: &Insn, f: Fields) -> Option<Fields>
     ensures { result ≡ found_from (ops.Bswap d) insn.now f }
 {
@@ -425,6 +443,32 @@ fn stos_fields(insn: &Insn, f: Fields) -> Option<Fields>
         Insn::Stos { w, rep } => Some(Fields {
             w,
             rep: rep_byte(rep),
+            ..f
+        }),
+        _ => None,
+    }
+}
+
+fn cmps_fields(insn: &Insn, f: Fields) -> Option<Fields>
+    ensures { result ≡ found_from ops.Cmps insn.now f }
+{
+    match *insn {
+        Insn::Cmps { w, rep } => Some(Fields {
+            w,
+            rep: repeat_byte(rep),
+            ..f
+        }),
+        _ => None,
+    }
+}
+
+fn scas_fields(insn: &Insn, f: Fields) -> Option<Fields>
+    ensures { result ≡ found_from ops.Scas insn.now f }
+{
+    match *insn {
+        Insn::Scas { w, rep } => Some(Fields {
+            w,
+            rep: repeat_byte(rep),
             ..f
         }),
         _ => None,
@@ -495,6 +539,8 @@ fn found_in(operation: Op, insn: &Insn, f: Fields) -> Option<Fields>
             _ => None,
         },
         Op::Xchg(d, s) => xchg_fields(d, s, insn, f),
+        Op::CmpXchg(d, s) => cmpxchg_fields(d, s, insn, f),
+        Op::Xadd(d, s) => xadd_fields(d, s, insn, f),
         Op::Nop => match *insn {
             Insn::Nop => Some(f),
             _ => None,
@@ -504,6 +550,8 @@ fn found_in(operation: Op, insn: &Insn, f: Fields) -> Option<Fields>
         Op::Scan(op, d, s) => scan_fields(op, d, s, insn, f),
         Op::Movs => movs_fields(insn, f),
         Op::Stos => stos_fields(insn, f),
+        Op::Cmps => cmps_fields(insn, f),
+        Op::Scas => scas_fields(insn, f),
         Op::Flag(op) => match *insn {
             Insn::Flag { op: o } if op == o => Some(f),
             _ => None,
@@ -531,6 +579,16 @@ fn rep_byte(rep: bool) -> u8
     ensures { result ≡ rep_byte_of rep }
 {
     if rep { 0xf3 } else { 0 }
+}
+
+fn repeat_byte(rep: Rep) -> u8
+    ensures { result ≡ repeat_byte_of rep }
+{
+    match rep {
+        Rep::No => 0,
+        Rep::WhileEqual => 0xf3,
+        Rep::WhileNot => 0xf2,
+    }
 }
 
 fn least_width(class: Size) -> Width

@@ -241,6 +241,7 @@ fn has_rep(rule: F3Rule, rep: u8) -> bool
 {
     match rule {
         F3Rule::Repeats => rep == 0 || rep == 0xf3,
+        F3Rule::RepeatsBoth => rep == 0 || rep == 0xf2 || rep == 0xf3,
         _ => rep == 0,
     }
 }

@@ -50,6 +50,15 @@ pub enum BitIndex {
     Imm(u8),
 }
 
+/// How a comparison of strings repeats: not at all, while what is compared is equal, or while it
+/// is not.
+#[derive(Clone, Copy, PartialEq, Eq)]
+pub enum Rep {
+    No,
+    WhileEqual,
+    WhileNot,
+}
+
 /// An instruction. Registers that have a width of more than 8 bits stand as their numbers, and
 /// targets of direct transfers as their addresses.
 #[derive(Clone, Copy)]
@@ -168,6 +177,16 @@ pub enum Insn {
         dst: Place,
         src: Reg,
     },
+    CmpXchg {
+        w: Width,
+        dst: Place,
+        src: Reg,
+    },
+    Xadd {
+        w: Width,
+        dst: Place,
+        src: Reg,
+    },
     Nop,
     Bswap {
         w: Width,
@@ -192,6 +211,14 @@ pub enum Insn {
     Stos {
         w: Width,
         rep: bool,
+    },
+    Cmps {
+        w: Width,
+        rep: Rep,
+    },
+    Scas {
+        w: Width,
+        rep: Rep,
     },
     Flag {
         op: FlagOp,

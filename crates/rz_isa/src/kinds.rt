@@ -75,6 +75,8 @@ pub fn rip_target(insn: &Insn) -> Option<u64>
         Insn::CallInd { src } => of_place(src),
         Insn::JmpInd { src } => of_place(src),
         Insn::Xchg { dst, .. } => of_place(dst),
+        Insn::CmpXchg { dst, .. } => of_place(dst),
+        Insn::Xadd { dst, .. } => of_place(dst),
         Insn::BitTest { dst, .. } => of_place(dst),
         Insn::Scan { src, .. } => of_place(src),
         _ => None,

@@ -1,6 +1,6 @@
 ghost use Rattle.std.specs.Prelude.{IsTrue};
 ghost use Rattle.rz_isa.specs.Emitted.{Emits, EmitsLookup, has_lookup};
-ghost use Rattle.rz_isa.specs.Table.{OneRow, Lengths, OneCanonicalRow, HasChosen, CanonicalSpells};
+ghost use Rattle.rz_isa.specs.Table.{OneRow, Lengths, OneCanonicalRow, HasChosen, CanonicalSpells, CanonicalPrefixes};
 ghost use Rattle.rz_isa.specs.Targets.{RipTargets, DirectTargets, IndirectOperands, SpelledElsewhere};
 ghost use Rattle.rz_isa.specs.Within.{SpelledWithin};
 
@@ -30,6 +30,12 @@ pub fn has_chosen<T: InsnTable>()
 /// A canonical spelling is a spelling by the canonical row, and names the instruction.
 pub fn canonical_spells<T: InsnTable>()
     ensures { CanonicalSpells T.rows }
+{}
+
+/// A canonical spelling has no prefix F0, and F2 exactly where a comparison of strings repeats while what it compares is
+/// not equal (Intel SDM, volume 2, section 2.1.1).
+pub fn canonical_prefixes<T: InsnTable>()
+    ensures { CanonicalPrefixes T.rows }
 {}
 
 /// What an instruction names relative to RIP is its ModRM operand's address, exactly where its

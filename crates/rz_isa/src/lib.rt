@@ -18,7 +18,7 @@ pub use classes::{Class, class_of};
 pub use decoding::Decoded;
 pub use find::fields_of;
 pub use fragment_list::{Fragment, FragmentList, Fragments};
-pub use instruction::{BitIndex, Count, Insn, Kind, Mem, Operand, Place, Reg};
+pub use instruction::{BitIndex, Count, Insn, Kind, Mem, Operand, Place, Reg, Rep};
 pub use item_list::{Item, Items, Label, Slot};
 pub use kinds::{kind, rip_target, target};
 pub use rows::{F3Rule, Form, ImmKind, Letter, Op, OpMap, RmRule, Row, Size};

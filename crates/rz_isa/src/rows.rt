@@ -18,13 +18,15 @@ pub enum RmRule {
     Fixed(u8),
 }
 
-/// Whether the prefix F3 may stand, must stand, or repeats the instruction.
+/// Whether the prefix F3 may stand, must stand, repeats the instruction, or repeats it while
+/// what is compared is equal, as F2 does while it is not.
 #[derive(Clone, Copy)]
 pub enum F3Rule {
     No,
     Allowed,
     Required,
     Repeats,
+    RepeatsBoth,
 }
 
 /// The size class, which gives the width. `B` is 8 bits; `V` 64 with REX.W, else 16 with the
@@ -82,7 +84,8 @@ pub enum Form {
 }
 
 /// A row of an instruction table: `span` opcodes (1, 8 or 16) from `opcode` on, the extension
-/// of the opcode in the reg field, and what else a spelling has.
+/// of the opcode in the reg field, whether the prefix F0 may stand where the destination is
+/// memory, and what else a spelling has.
 #[derive(Clone, Copy)]
 pub struct Row {
     pub map: OpMap,
@@ -91,6 +94,7 @@ pub struct Row {
     pub digit: Option<u8>,
     pub rm: Option<RmRule>,
     pub f3: F3Rule,
+    pub lock: bool,
     pub size: Size,
     pub imm: Option<ImmKind>,
     pub form: Form,
@@ -129,12 +133,16 @@ pub enum Op {
     Convert,
     SignFill,
     Xchg(Letter, Letter),
+    CmpXchg(Letter, Letter),
+    Xadd(Letter, Letter),
     Nop,
     Bswap(Letter),
     BitTest(BitOp, Letter, Letter),
     Scan(ScanOp, Letter, Letter),
     Movs,
     Stos,
+    Cmps,
+    Scas,
     Flag(FlagOp),
     Syscall,
     Ud2,

@@ -1,8 +1,8 @@
 ghost use Rattle.std.specs.Prelude.{◌≡◌, ◌≤◌};
 ghost use Rattle.rz_isa.specs.Spelling.{imm_len as imm_len_of};
-ghost use Rattle.rz_isa.specs.Fields.{build_op, place_at as place_of_letter, operand_at as operand_of_letter, reg_at as reg_of_letter, number_of as number_of_reg, number_at as number_of_letter, count_at as count_of_letter, index_at as index_of_letter, letter_width as width_of_letter};
+ghost use Rattle.rz_isa.specs.Fields.{build_op, place_at as place_of_letter, operand_at as operand_of_letter, reg_at as reg_of_letter, number_of as number_of_reg, number_at as number_of_letter, count_at as count_of_letter, index_at as index_of_letter, repeat_of as repeat_of_byte, letter_width as width_of_letter};
 
-use crate::instruction::{BitIndex, Count, Insn, Operand, Place, Reg};
+use crate::instruction::{BitIndex, Count, Insn, Operand, Place, Reg, Rep};
 use crate::rows::{ImmKind, Letter, Op, Row};
 use rz_flags::Cond;
 use rz_num::Width;
@@ -80,6 +80,17 @@ fn index_at(letter: Letter, fields: &Fields) -> BitIndex
     match letter {
         Letter::Imm => BitIndex::Imm((fields.imm % 0x100) as u8),
         _ => BitIndex::Reg(number_at(letter, fields)),
+    }
+}
+
+// F3 repeats while what is compared is equal, F2 while it is not.
+fn repeat_of(prefix: u8) -> Rep
+    ensures { result ≡ repeat_of_byte prefix }
+{
+    match prefix {
+        0xf3 => Rep::WhileEqual,
+        0xf2 => Rep::WhileNot,
+        _ => Rep::No,
     }
 }
 
@@ -226,6 +237,16 @@ fn build_from(op: Op, f: &Fields) -> Insn
             dst: place_at(d, f),
             src: reg_at(s, f),
         },
+        Op::CmpXchg(d, s) => Insn::CmpXchg {
+            w: f.w,
+            dst: place_at(d, f),
+            src: reg_at(s, f),
+        },
+        Op::Xadd(d, s) => Insn::Xadd {
+            w: f.w,
+            dst: place_at(d, f),
+            src: reg_at(s, f),
+        },
         Op::Nop => Insn::Nop,
         Op::Bswap(d) => Insn::Bswap {
             w: f.w,
@@ -245,11 +266,19 @@ fn build_from(op: Op, f: &Fields) -> Insn
         },
         Op::Movs => Insn::Movs {
             w: f.w,
-            rep: f.rep > 0,
+            rep: f.rep == 0xf3,
         },
         Op::Stos => Insn::Stos {
             w: f.w,
-            rep: f.rep > 0,
+            rep: f.rep == 0xf3,
+        },
+        Op::Cmps => Insn::Cmps {
+            w: f.w,
+            rep: repeat_of(f.rep),
+        },
+        Op::Scas => Insn::Scas {
+            w: f.w,
+            rep: repeat_of(f.rep),
         },
         Op::Flag(op) => Insn::Flag { op },
         Op::Syscall => Insn::Syscall,

@@ -96,6 +96,21 @@ impl DecodeCache {
         requires spelled { IsEntry (decoded_of T.rows) mem.now entry }
         ensures { Serves (decoded_of T.rows) mem.now self.new }
     {
+        self.grow::<T>(alloc, mem, entry);
+        let index = place(entry.at, self.entries.len());
+        if index < self.entries.len() {
+            self.entries[index] = entry;
+        }
+    }
+
+    // Grows where it has missed as often as it has entries: each place then has this entry.
+    fn grow<T: InsnTable>(&mut self, alloc: Global, mem: &Memory, entry: Entry)
+        requires serves { Serves (decoded_of T.rows) mem.now self.old }
+        requires used { self.old.is_used ≡ true }
+        requires spelled { IsEntry (decoded_of T.rows) mem.now entry }
+        ensures serves { Serves (decoded_of T.rows) mem.now self.new }
+        ensures used { self.new.is_used ≡ true }
+    {
         let len = self.entries.len();
         if len < MOST {
             if self.misses < len {
@@ -106,10 +121,6 @@ impl DecodeCache {
                     self.entries = entries;
                 }
             }
-        }
-        let index = place(entry.at, self.entries.len());
-        if index < self.entries.len() {
-            self.entries[index] = entry;
         }
     }
 }

@@ -1,2 +1,4 @@
+pub mod Changed
 pub mod Covered
+pub mod Profile2Classes
 pub mod ProfileClasses

@@ -1,9 +1,11 @@
 pub mod Index
 pub mod Listing
+pub mod Profile2
 pub mod Worked
 pub mod Decoded
 pub mod Prefixes
 pub mod Spellings
 pub mod CanonicalRows
 pub mod Reach
+pub mod Further
 pub mod Laws

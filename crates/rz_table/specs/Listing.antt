@@ -1,4 +1,4 @@
-use Rattle.std.specs.Prelude.{ℕ, ◌+◌, ◌*◌, List, [], ◌∷◌, ◌++◌, map, Option, Some, None, true, false}
+use Rattle.std.specs.Prelude.{ℕ, ◌+◌, ◌*◌, List, [], ◌∷◌, ◌++◌, map, Option, Some, None, Bool, true, false}
 use Rattle.rz_flags.specs.declared.ArithOp.{ArithOp}
 use Rattle.rz_flags.specs.declared.ArithOp.TheVariants as ariths
 use Rattle.rz_flags.specs.declared.UnaryOp.TheVariants as unaries
@@ -12,7 +12,7 @@ use Rattle.rz_isa.specs.declared.rows.OpMap.TheVariants.{One, Two}
 use Rattle.rz_isa.specs.declared.rows.RmRule.{RmRule}
 use Rattle.rz_isa.specs.declared.rows.RmRule.TheVariants.{Any, MemoryOnly, RegisterOnly, Fixed}
 use Rattle.rz_isa.specs.declared.rows.F3Rule.{F3Rule}
-use Rattle.rz_isa.specs.declared.rows.F3Rule.TheVariants.{No, Allowed, Required, Repeats}
+use Rattle.rz_isa.specs.declared.rows.F3Rule.TheVariants.{No, Allowed, Required, Repeats, RepeatsBoth}
 use Rattle.rz_isa.specs.declared.rows.Size.{Size}
 use Rattle.rz_isa.specs.declared.rows.Size.TheVariants.{B, V, D, Y, Q, WQ, N}
 use Rattle.rz_isa.specs.declared.rows.ImmKind.{ImmKind}
@@ -27,7 +27,7 @@ use Rattle.rz_isa.specs.declared.rows.Op.TheVariants as ops
 use Rattle.rz_isa.specs.declared.rows.Row.{Row}
 use Rattle.rz_isa.specs.Suited.{letters_of}
 
--- The rows of profile 1 in the form of the opcode tables (Intel SDM, volume 2, chapters 3 to 5 and
+-- The rows of both profiles in the form of the opcode tables (Intel SDM, volume 2, chapters 3 to 5 and
 -- appendix A): an opcode, a size and operands. The rest of a row follows from these.
 
 -- ---- an opcode (volume 2, section 3.1.1.1): alone, with /digit, +r or +cc, or with the ModRM byte behind it
@@ -85,6 +85,7 @@ line map f3 size imm code op = record {
   digit = digit_of code;
   rm = rule_of code op;
   f3 = f3;
+  lock = false;
   size = size;
   imm = imm;
   form = form_of imm op;
@@ -235,3 +236,40 @@ ends = opcodes Two No N None ((0x05, ops.Syscall) ∷ []) ∷ opcodes Two No N N
 
 abbrev pub profile_rows : List Row
 profile_rows = joined ariths_rows ++ joined moves ++ joined operations ++ joined jumps ++ joined calls ++ joined ends
+
+-- ---- profile 2: further rows, and F0
+
+abbrev pub carry_rotates : Letter → List (ℕ × Op)
+carry_rotates c = (2, ops.Shift shifts.Rcl E c) ∷ (3, ops.Shift shifts.Rcr E c) ∷ []
+
+-- rotations through CF, exchanges that compare or add, comparisons of strings
+abbrev pub further : List (List Row)
+further =
+    group none 0xd0 0xd1 (carry_rotates letters.One)
+    ∷ group byte 0xc0 0xc1 (carry_rotates Imm)
+    ∷ group none 0xd2 0xd3 (carry_rotates Cl)
+    ∷ opcodes Two No B None ((0xb0, ops.CmpXchg E G) ∷ [])
+    ∷ opcodes Two No V None ((0xb1, ops.CmpXchg E G) ∷ [])
+    ∷ opcodes Two No B None ((0xc0, ops.Xadd E G) ∷ [])
+    ∷ opcodes Two No V None ((0xc1, ops.Xadd E G) ∷ [])
+    ∷ pair RepeatsBoth none (plain 0xa6) (plain 0xa7) ops.Cmps
+    ∷ pair RepeatsBoth none (plain 0xae) (plain 0xaf) ops.Scas
+    ∷ []
+
+-- the operations that F0 may stand before, where the destination is memory (volume 2, "LOCK")
+abbrev pub takes_lock : Op → Bool
+takes_lock (ops.Arith ariths.Cmp d s) = false
+takes_lock (ops.Arith o E s) = true
+takes_lock (ops.Unary o E) = true
+takes_lock (ops.Xchg E s) = true
+takes_lock (ops.CmpXchg E s) = true
+takes_lock (ops.Xadd E s) = true
+takes_lock (ops.BitTest bits.Test d i) = false
+takes_lock (ops.BitTest o E i) = true
+takes_lock _ = false
+
+abbrev pub with_lock : Row → Row
+with_lock row = record row { lock = takes_lock row.op }
+
+abbrev pub profile2_rows : List Row
+profile2_rows = map with_lock (profile_rows ++ joined further)

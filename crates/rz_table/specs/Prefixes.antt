@@ -5,7 +5,7 @@ use Rattle.rz_isa.specs.declared.decoding.Decoded.TheVariants as decodeds
 use Rattle.rz_isa.specs.Decoded.{decoded}
 use Rattle.rz_table.specs.declared.profile_rows.TheConstants.{PROFILE}
 
--- Which pairs of the five prefixes may stand before a spelling of profile 1, evaluated
+-- Which pairs of the seven prefixes may stand before a spelling of profile 1, evaluated
 -- (Intel SDM, volume 2, section 2.1.1; which rows take which is the table's).
 
 abbrev is_insn : Decoded → Bool
@@ -13,7 +13,7 @@ is_insn (decodeds.Insn x n) = true
 is_insn _ = false
 
 abbrev prefixes : List ℕ
-prefixes = 0x2e ∷ 0x3e ∷ 0x66 ∷ 0x67 ∷ 0xf3 ∷ []
+prefixes = 0x2e ∷ 0x3e ∷ 0x66 ∷ 0x67 ∷ 0xf0 ∷ 0xf2 ∷ 0xf3 ∷ []
 
 abbrev pairs : List (List ℕ)
 pairs = flat_map (λ p. map (λ q. p ∷ q ∷ []) prefixes) prefixes

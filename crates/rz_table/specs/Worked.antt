@@ -34,7 +34,7 @@ mov_of_registers = record {
   in_table = refl;
   by_row = record {
     parts = record { prefixes = []; rex = Some 0x48; opcode = 0x89; rm = (0xe5 ∷ []); imm = [] };
-    spelled = record { bytes = refl; fits = record { prefixes = refl; rex = refl; w = refl; opcode = refl; b = refl; rm = refl; imm = refl }; all = refl; short = refl };
+    spelled = record { bytes = refl; fits = record { prefixes = refl; lock = refl; rex = refl; w = refl; opcode = refl; b = refl; rm = refl; imm = refl }; all = refl; short = refl };
     names = refl;
   };
 }
@@ -47,7 +47,7 @@ call_with_67 = record {
   in_table = refl;
   by_row = record {
     parts = record { prefixes = (0x67 ∷ []); rex = None; opcode = 0xe8; rm = []; imm = (0x00 ∷ 0x00 ∷ 0x00 ∷ 0x00 ∷ []) };
-    spelled = record { bytes = refl; fits = record { prefixes = refl; rex = refl; w = refl; opcode = refl; b = refl; rm = refl; imm = refl }; all = refl; short = refl };
+    spelled = record { bytes = refl; fits = record { prefixes = refl; lock = refl; rex = refl; w = refl; opcode = refl; b = refl; rm = refl; imm = refl }; all = refl; short = refl };
     names = refl;
   };
 }
@@ -60,7 +60,7 @@ long_nop = record {
   in_table = refl;
   by_row = record {
     parts = record { prefixes = (0x66 ∷ 0x66 ∷ []); rex = None; opcode = 0x1f; rm = (0x00 ∷ []); imm = [] };
-    spelled = record { bytes = refl; fits = record { prefixes = refl; rex = refl; w = refl; opcode = refl; b = refl; rm = refl; imm = refl }; all = refl; short = refl };
+    spelled = record { bytes = refl; fits = record { prefixes = refl; lock = refl; rex = refl; w = refl; opcode = refl; b = refl; rm = refl; imm = refl }; all = refl; short = refl };
     names = refl;
   };
 }
@@ -73,7 +73,7 @@ longest_nop = record {
   in_table = refl;
   by_row = record {
     parts = record { prefixes = (0x66 ∷ 0x66 ∷ 0x66 ∷ 0x66 ∷ 0x66 ∷ 0x66 ∷ 0x66 ∷ 0x66 ∷ 0x66 ∷ 0x66 ∷ 0x66 ∷ 0x66 ∷ []); rex = None; opcode = 0x1f; rm = (0x00 ∷ []); imm = [] };
-    spelled = record { bytes = refl; fits = record { prefixes = refl; rex = refl; w = refl; opcode = refl; b = refl; rm = refl; imm = refl }; all = refl; short = refl };
+    spelled = record { bytes = refl; fits = record { prefixes = refl; lock = refl; rex = refl; w = refl; opcode = refl; b = refl; rm = refl; imm = refl }; all = refl; short = refl };
     names = refl;
   };
 }
@@ -86,7 +86,7 @@ pause = record {
   in_table = refl;
   by_row = record {
     parts = record { prefixes = (0xf3 ∷ []); rex = None; opcode = 0x90; rm = []; imm = [] };
-    spelled = record { bytes = refl; fits = record { prefixes = refl; rex = refl; w = refl; opcode = refl; b = refl; rm = refl; imm = refl }; all = refl; short = refl };
+    spelled = record { bytes = refl; fits = record { prefixes = refl; lock = refl; rex = refl; w = refl; opcode = refl; b = refl; rm = refl; imm = refl }; all = refl; short = refl };
     names = refl;
   };
 }
@@ -99,7 +99,7 @@ exchange_of_r8 = record {
   in_table = refl;
   by_row = record {
     parts = record { prefixes = []; rex = Some 0x41; opcode = 0x90; rm = []; imm = [] };
-    spelled = record { bytes = refl; fits = record { prefixes = refl; rex = refl; w = refl; opcode = refl; b = refl; rm = refl; imm = refl }; all = refl; short = refl };
+    spelled = record { bytes = refl; fits = record { prefixes = refl; lock = refl; rex = refl; w = refl; opcode = refl; b = refl; rm = refl; imm = refl }; all = refl; short = refl };
     names = refl;
   };
 }
@@ -112,7 +112,7 @@ endbr64 = record {
   in_table = refl;
   by_row = record {
     parts = record { prefixes = (0xf3 ∷ []); rex = None; opcode = 0x1e; rm = (0xfa ∷ []); imm = [] };
-    spelled = record { bytes = refl; fits = record { prefixes = refl; rex = refl; w = refl; opcode = refl; b = refl; rm = refl; imm = refl }; all = refl; short = refl };
+    spelled = record { bytes = refl; fits = record { prefixes = refl; lock = refl; rex = refl; w = refl; opcode = refl; b = refl; rm = refl; imm = refl }; all = refl; short = refl };
     names = refl;
   };
 }
@@ -125,7 +125,7 @@ double_extension = record {
   in_table = refl;
   by_row = record {
     parts = record { prefixes = []; rex = Some 0x48; opcode = 0x63; rm = (0xc0 ∷ []); imm = [] };
-    spelled = record { bytes = refl; fits = record { prefixes = refl; rex = refl; w = refl; opcode = refl; b = refl; rm = refl; imm = refl }; all = refl; short = refl };
+    spelled = record { bytes = refl; fits = record { prefixes = refl; lock = refl; rex = refl; w = refl; opcode = refl; b = refl; rm = refl; imm = refl }; all = refl; short = refl };
     names = refl;
   };
 }
@@ -138,7 +138,7 @@ wide_move_with_66 = record {
   in_table = refl;
   by_row = record {
     parts = record { prefixes = (0x66 ∷ []); rex = Some 0x48; opcode = 0x89; rm = (0xe5 ∷ []); imm = [] };
-    spelled = record { bytes = refl; fits = record { prefixes = refl; rex = refl; w = refl; opcode = refl; b = refl; rm = refl; imm = refl }; all = refl; short = refl };
+    spelled = record { bytes = refl; fits = record { prefixes = refl; lock = refl; rex = refl; w = refl; opcode = refl; b = refl; rm = refl; imm = refl }; all = refl; short = refl };
     names = refl;
   };
 }
@@ -151,7 +151,7 @@ set_with_reg_field_7 = record {
   in_table = refl;
   by_row = record {
     parts = record { prefixes = []; rex = None; opcode = 0x94; rm = (0xf8 ∷ []); imm = [] };
-    spelled = record { bytes = refl; fits = record { prefixes = refl; rex = refl; w = refl; opcode = refl; b = refl; rm = refl; imm = refl }; all = refl; short = refl };
+    spelled = record { bytes = refl; fits = record { prefixes = refl; lock = refl; rex = refl; w = refl; opcode = refl; b = refl; rm = refl; imm = refl }; all = refl; short = refl };
     names = refl;
   };
 }
@@ -164,7 +164,7 @@ nop_with_2e = record {
   in_table = refl;
   by_row = record {
     parts = record { prefixes = (0x2e ∷ []); rex = None; opcode = 0x90; rm = []; imm = [] };
-    spelled = record { bytes = refl; fits = record { prefixes = refl; rex = refl; w = refl; opcode = refl; b = refl; rm = refl; imm = refl }; all = refl; short = refl };
+    spelled = record { bytes = refl; fits = record { prefixes = refl; lock = refl; rex = refl; w = refl; opcode = refl; b = refl; rm = refl; imm = refl }; all = refl; short = refl };
     names = refl;
   };
 }

@@ -40,7 +40,7 @@ pub fn opcode_place(map: OpMap, opcode: u8) -> usize
 /// The place of a class among all.
 pub fn class_place(class: Class) -> usize
     ensures value { result ≡ place_among class }
-    ensures below { result < 46 }
+    ensures below { result < 50 }
 {
     class as usize
 }

@@ -1,4 +1,4 @@
-//! Profile 1, the table of the instructions that are read, run and written.
+//! The tables of the instructions that are read, run and written: profile 1, and profile 2 with further rows.
 #![tactic(auto)]
 
 // One line for each row of a table: `_` stands where the row has none, and a ModRM byte in
@@ -42,6 +42,7 @@ macro_rules! row {
             digit: digit!($digit),
             rm: rm_rule!($rm),
             f3: F3Rule::$f3,
+            lock: false,
             size: Size::$size,
             imm: immediate!($imm),
             form: Form::$form,
@@ -50,9 +51,13 @@ macro_rules! row {
     };
 }
 
+mod further_rows;
 mod index;
 mod profile;
+mod profile2;
+mod profile2_index;
 mod profile_index;
 mod profile_rows;
 
 pub use profile::Profile1;
+pub use profile2::Profile2;

@@ -51,10 +51,10 @@ pub static PROFILE_OPCODE_ROWS: [u8; 312] = [
 ];
 
 // Where the rows of a class begin, by the class's place.
-pub static PROFILE_CLASS_STARTS: [u16; 47] = [
+pub static PROFILE_CLASS_STARTS: [u16; 51] = [
     0, 9, 18, 27, 36, 45, 54, 63, 72, 78, 87, 88, 93, 97, 99, 100, 101, 102, 110, 118, 119, 121,
-    151, 155, 156, 157, 159, 160, 162, 163, 164, 165, 167, 168, 169, 172, 176, 177, 185, 190, 192,
-    194, 199, 200, 201, 202, 203,
+    151, 155, 156, 157, 159, 160, 162, 163, 164, 165, 167, 168, 169, 172, 172, 172, 176, 177, 185,
+    190, 192, 194, 194, 194, 199, 200, 201, 202, 203,
 ];
 
 // The rows of each class, one list behind the other.

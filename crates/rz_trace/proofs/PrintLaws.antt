@@ -10,7 +10,7 @@ flat_map-map : {X Y : Type 0} (f : Y → List ℕ) (g : X → Y) (xs : List X) �
 flat_map-map f g [] = refl
 flat_map-map f g (x ∷ xs) = ap (λ (ys : List ℕ). f (g x) ++ ys) (flat_map-map f g xs)
 
-pub text_of-parts : (nodes : List ℕ) (edges : List (ℕ × ℕ)) → text_of nodes edges ≡ ((codes "razor-trace 1\n" ++ node_lines nodes) ++ edge_lines edges) ++ codes "end\n"
+pub text_of-parts : (nodes : List ℕ) (edges : List (ℕ × ℕ)) → text_of nodes edges ≡ ((codes "razor-trace 2\nprofile 2\n" ++ node_lines nodes) ++ edge_lines edges) ++ codes "end\n"
 text_of-parts nodes edges =
     let ns = map (λ (at : ℕ). Node at) nodes in
     let es = map (λ (edge : ℕ × ℕ). Edge edge.0 edge.1) edges in
@@ -18,5 +18,5 @@ text_of-parts nodes edges =
     let second = flat_map-append ended_line es (End ∷ []) in
     let a = flat_map-map ended_line (λ (at : ℕ). Node at) nodes in
     let b = flat_map-map ended_line (λ (edge : ℕ × ℕ). Edge edge.0 edge.1) edges in
-    ap (λ (t : List ℕ). codes "razor-trace 1\n" ++ t) (first ∙ rw (second, a, b) refl)
-    ∙ sym (append_assoc (codes "razor-trace 1\n" ++ node_lines nodes) (edge_lines edges) (codes "end\n") ∙ append_assoc (codes "razor-trace 1\n") (node_lines nodes) (edge_lines edges ++ codes "end\n"))
+    ap (λ (t : List ℕ). codes "razor-trace 2\nprofile 2\n" ++ t) (first ∙ rw (second, a, b) refl)
+    ∙ sym (append_assoc (codes "razor-trace 2\nprofile 2\n" ++ node_lines nodes) (edge_lines edges) (codes "end\n") ∙ append_assoc (codes "razor-trace 2\nprofile 2\n") (node_lines nodes) (edge_lines edges ++ codes "end\n"))

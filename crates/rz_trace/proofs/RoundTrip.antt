@@ -1,5 +1,5 @@
 -- A printed record is read back in ascending order.
-use Rattle.std.proofs.Common.{◌≡◌, ℕ, suc, ◌+◌, ◌^◌, ◌<◌, ◌≤◌, ◌==◌, ◌&&◌, ◌||◌, Bool, true, false, List, [], ◌∷◌, ◌++◌, length, map, nat_eq, nat_lt, Option, Some, None, append-nil, append_assoc, refl, sym, ap, ◌∙◌, arith}
+use Rattle.std.proofs.Common.{◌≡◌, ℕ, suc, ◌+◌, ◌^◌, ◌<◌, ◌≤◌, ◌==◌, ◌&&◌, ◌||◌, Bool, true, false, List, [], ◌∷◌, ◌++◌, length, map, nat_eq, nat_lt, Option, Some, None, append-nil, append_assoc, refl, sym, ap, subst, ◌∙◌, arith}
 use Rattle.std.specs.Prelude.{IsSorted, fold}
 use Rattle.std.specs.Ordering.{nat_cmp, is_lt}
 use Rattle.std.specs.List.{All, AllByRecursion, IsDistinct, enumerate_from, list_any, last_or}
@@ -11,12 +11,13 @@ use Rattle.rz_text.specs.Laws.Lines.{lines-ended}
 use Rattle.rz_aset.specs.declared.kept.Record.{Record}
 use Rattle.rz_aset.specs.Sets.{edge_cmp, has, has_edge, is_same_edge, with_address, with_edge}
 use Rattle.rz_trace.specs.declared.entry.Entry.{Entry}
-use Rattle.rz_trace.specs.declared.entry.Entry.TheVariants.{Begin, Node, Edge, End}
+use Rattle.rz_trace.specs.declared.file.TraceFile.{TraceFile}
+use Rattle.rz_trace.specs.declared.entry.Entry.TheVariants.{Begin, Profile, Node, Edge, End}
 use Rattle.rz_trace.specs.Order.{edge_follows, end_follows, fits, node_follows}
-use Rattle.rz_trace.specs.Value.{entries, no_record, record_from, record_of, with_entry}
+use Rattle.rz_trace.specs.Value.{entries, no_file, file_from, file_of, record_of, with_entry}
 use Rattle.rz_trace.specs.Fault.{end_fault, fault_behind, fault_of, fault_of_line, last_entry}
 use Rattle.rz_trace.specs.Printed.{ReadsBack, entries_of, entry_line, text_of}
-use Rattle.rz_trace.proofs.ReadLaws.{entries-more, last_or-more, record_from-some}
+use Rattle.rz_trace.proofs.ReadLaws.{entries-more, last_or-more, file_from-some}
 use Rattle.std.specs.List.Sorted.{IsPermutation}
 use Rattle.std.specs.Prelude.{slice_index}
 use Rattle.std.proofs.lemmas.List.Sorted.{list_any-IsPermutation, All-permutation}
@@ -25,14 +26,14 @@ use Rattle.std.proofs.lemmas.Map.Keys.{IsDistinct-IsPermutation}
 use Rattle.rz_aset.specs.Laws.Places.{All_at}
 use Rattle.rz_trace.proofs.Readable.{IsPrintable, entry_of-line, no_end-line}
 
--- each entry fits behind those before it, and together they make a record
-abbrev Chain : Record → Option Entry → List Entry → Record → Type 0
-Chain kept last [] final = kept ≡ final
-Chain kept last (e ∷ es) final = (fits kept last e ≡ true) × Chain (with_entry kept e) (Some e) es final
+-- each entry fits behind those before it, and together they make a file
+abbrev Chain : TraceFile → Option Entry → List Entry → TraceFile → Type 0
+Chain file last [] final = file ≡ final
+Chain file last (e ∷ es) final = (fits file.rec last e ≡ true) × Chain (with_entry file e) (Some e) es final
 
-chain_value : (kept : Record) (last : Option Entry) (es : List Entry) (final : Record) → Chain kept last es final → fold with_entry kept es ≡ final
-chain_value kept last [] final h = h
-chain_value kept last (e ∷ es) final h = chain_value (with_entry kept e) (Some e) es final h.1
+chain_value : (file : TraceFile) (last : Option Entry) (es : List Entry) (final : TraceFile) → Chain file last es final → fold with_entry file es ≡ final
+chain_value file last [] final h = h
+chain_value file last (e ∷ es) final h = chain_value (with_entry file e) (Some e) es final h.1
 
 -- ---- printed lines have no fault
 
@@ -44,21 +45,21 @@ step : (earlier : List Line) (line : Line) (rest : List Line) → fault_of_line 
     → first_fault fault_of_line (earlier ++ line ∷ []) rest ≡ None → first_fault fault_of_line earlier (line ∷ rest) ≡ None
 step earlier line rest here later = rw here later
 
-no_fault : (earlier : List Line) (n : ℕ) (es : List Entry) (kept : Record) (last : Option Entry) (final : Record) → AllByRecursion IsPrintable es
-    → record_from (entries earlier) ≡ kept → last_entry earlier ≡ last → Chain kept last es final
+no_fault : (earlier : List Line) (n : ℕ) (es : List Entry) (file : TraceFile) (last : Option Entry) (final : TraceFile) → AllByRecursion IsPrintable es
+    → file_from (entries earlier) ≡ file → last_entry earlier ≡ last → Chain file last es final
     → first_fault fault_of_line earlier (enumerate_from n (map entry_line es)) ≡ None
-no_fault earlier n [] kept last final h k l chain = refl
-no_fault earlier n (e ∷ es) kept last final h k l chain =
+no_fault earlier n [] file last final h k l chain = refl
+no_fault earlier n (e ∷ es) file last final h k l chain =
     let line : Line = (n, entry_line e) in
     let said = entry_of-line e h.0 in
     let good = chain.0 in
-    let fine : fault_behind kept last n (Some e) ≡ None = rw good refl in
+    let fine : fault_behind file.rec last n (Some e) ≡ None = rw good refl in
     let here : fault_of_line earlier line ≡ None = rw (k, l, said) fine in
     let more = entries-more earlier line in
-    let value : record_from (entries (earlier ++ line ∷ [])) ≡ with_entry kept e =
-    ap record_from more ∙ record_from-some (entries earlier) _ ∙ rw (k, said) refl in
+    let value : file_from (entries (earlier ++ line ∷ [])) ≡ with_entry file e =
+    ap file_from more ∙ file_from-some (entries earlier) _ ∙ rw (k, said) refl in
     let ends : last_entry (earlier ++ line ∷ []) ≡ Some e = ap (last_or None) more ∙ rw said (last_or-more None (entries earlier) e) in
-    step earlier line (enumerate_from (n + 1) (map entry_line es)) here (no_fault (earlier ++ line ∷ []) (n + 1) es (with_entry kept e) (Some e) final h.1 value ends chain.1)
+    step earlier line (enumerate_from (n + 1) (map entry_line es)) here (no_fault (earlier ++ line ∷ []) (n + 1) es (with_entry file e) (Some e) final h.1 value ends chain.1)
 
 -- ---- members of ascending lists are new
 
@@ -125,25 +126,27 @@ edges_rise x [] s d = tt
 edges_rise x (y ∷ ys) s d =
     (edge_above x.0 x.1 y.0 y.1 (sorted_first edge_cmp x y ys s) d.0.0, edges_rise y ys (sorted_tail edge_cmp x (y ∷ ys) s) d.1)
 
-nodes_fit : (xs : List ℕ) → IsSorted nat_cmp xs → IsDistinct nat_eq xs → NodesFit (Some Begin) xs
+nodes_fit : (xs : List ℕ) → IsSorted nat_cmp xs → IsDistinct nat_eq xs → NodesFit (Some (Profile 2)) xs
 nodes_fit [] s d = tt
 nodes_fit (x ∷ xs) s d = (refl, nodes_rise x xs s d)
 
--- the first line or a node
+-- the profile or a node
 abbrev IsEarly : Option Entry → Type 0
-IsEarly (Some Begin) = Unit {0}
+IsEarly (Some (Profile profile)) = Unit {0}
 IsEarly (Some (Node at)) = Unit {0}
 IsEarly _ = ⊥
 
 edge_early : (last : Option Entry) (from to : ℕ) → IsEarly last → edge_follows last from to ≡ true
-edge_early (Some Begin) from to h = refl
+edge_early (Some (Profile profile)) from to h = refl
+edge_early (Some (Begin version)) from to h = absurd h
 edge_early (Some (Node at)) from to h = refl
 edge_early (Some (Edge a b)) from to h = absurd h
 edge_early (Some End) from to h = absurd h
 edge_early None from to h = absurd h
 
 end_early : (last : Option Entry) → IsEarly last → end_follows last ≡ true
-end_early (Some Begin) h = refl
+end_early (Some (Profile profile)) h = refl
+end_early (Some (Begin version)) h = absurd h
 end_early (Some (Node at)) h = refl
 end_early (Some (Edge a b)) h = refl
 end_early (Some End) h = absurd h
@@ -153,10 +156,10 @@ edges_fit : (last : Option Entry) (xs : List (ℕ × ℕ)) → IsEarly last → 
 edges_fit last [] early s d = tt
 edges_fit last (x ∷ xs) early s d = (edge_early last x.0 x.1 early, edges_rise x xs s d)
 
--- ---- the chain of a record
+-- ---- the chain of a file
 
-abbrev pub record_with : List ℕ → List (ℕ × ℕ) → Record
-record_with nodes edges = record { nodes = nodes; edges = edges }
+abbrev pub file_with : List ℕ → List (ℕ × ℕ) → TraceFile
+file_with nodes edges = record { profile = 2; rec = record { nodes = nodes; edges = edges } }
 
 node_new : (done : List ℕ) (x : ℕ) → has done x ≡ false → with_address done x ≡ done ++ x ∷ []
 node_new done x h = rw h refl
@@ -164,9 +167,9 @@ node_new done x h = rw h refl
 edge_new : (done : List (ℕ × ℕ)) (x : ℕ × ℕ) → has_edge done x ≡ false → with_edge done x ≡ done ++ x ∷ []
 edge_new done x h = rw h refl
 
-chain_nodes : (xs done : List ℕ) (last : Option Entry) (rest : List Entry) (final : Record) → NodesFit last xs → Fresh nat_eq done xs → IsEarly last
-    → ((l : Option Entry) → IsEarly l → Chain (record_with (done ++ xs) []) l rest final)
-    → Chain (record_with done []) last (map (λ at. Node at) xs ++ rest) final
+chain_nodes : (xs done : List ℕ) (last : Option Entry) (rest : List Entry) (final : TraceFile) → NodesFit last xs → Fresh nat_eq done xs → IsEarly last
+    → ((l : Option Entry) → IsEarly l → Chain (file_with (done ++ xs) []) l rest final)
+    → Chain (file_with done []) last (map (λ at. Node at) xs ++ rest) final
 chain_nodes [] done last rest final fit fresh early next = rw (append-nil done) at (next last early)
 chain_nodes (x ∷ xs) done last rest final fit fresh early next =
     let new = node_new done x fresh.0.0 in (
@@ -180,8 +183,8 @@ HasBoth nodes edge = (has nodes edge.0 ≡ true) × (has nodes edge.1 ≡ true)
 
 chain_edges : (nodes : List ℕ) (ys done : List (ℕ × ℕ)) (last : Option Entry) → EdgesFit last ys → Fresh is_same_edge done ys
     → AllByRecursion (HasBoth nodes) ys → end_follows last ≡ true
-    → Chain (record_with nodes done) last (map (λ edge. Edge edge.0 edge.1) ys ++ End ∷ []) (record_with nodes (done ++ ys))
-chain_edges nodes [] done last fit fresh ends over = (over, ap (record_with nodes) (sym (append-nil done)))
+    → Chain (file_with nodes done) last (map (λ edge. Edge edge.0 edge.1) ys ++ End ∷ []) (file_with nodes (done ++ ys))
+chain_edges nodes [] done last fit fresh ends over = (over, ap (file_with nodes) (sym (append-nil done)))
 chain_edges nodes (y ∷ ys) done last fit fresh ends over =
     let new = edge_new done y fresh.0.0 in
     let follows = fit.0 in
@@ -190,11 +193,11 @@ chain_edges nodes (y ∷ ys) done last fit fresh ends over =
     (rw (follows, from, to) refl, rw new (rw (append_assoc done (y ∷ []) ys) at (chain_edges nodes ys (done ++ y ∷ []) (Some (Edge y.0 y.1)) fit.1 (Fresh-more is_same_edge done y ys fresh) ends.1 refl)))
 
 chain_all : (nodes : List ℕ) (edges : List (ℕ × ℕ)) → IsSorted nat_cmp nodes → IsDistinct nat_eq nodes → IsSorted edge_cmp edges → IsDistinct is_same_edge edges
-    → AllByRecursion (HasBoth nodes) edges → Chain no_record None (entries_of nodes edges) (record_with nodes edges)
+    → AllByRecursion (HasBoth nodes) edges → Chain no_file None (entries_of nodes edges) (file_with nodes edges)
 chain_all nodes edges s d t e ends = (
   refl,
-  chain_nodes nodes [] (Some Begin) (map (λ (edge : ℕ × ℕ). Edge edge.0 edge.1) edges ++ End ∷ []) (record_with nodes edges) (nodes_fit nodes s d) (Fresh-start nat_eq nodes d) tt
-      (λ l early. chain_edges nodes edges [] l (edges_fit l edges early t e) (Fresh-start is_same_edge edges e) ends (end_early l early)),
+  (refl, chain_nodes nodes [] (Some (Profile 2)) (map (λ (edge : ℕ × ℕ). Edge edge.0 edge.1) edges ++ End ∷ []) (file_with nodes edges) (nodes_fit nodes s d) (Fresh-start nat_eq nodes d) tt
+      (λ l early. chain_edges nodes edges [] l (edges_fit l edges early t e) (Fresh-start is_same_edge edges e) ends (end_early l early))),
 )
 
 -- ---- the round trip
@@ -218,29 +221,29 @@ last_of : (nodes : List ℕ) (edges : List (ℕ × ℕ)) → last_or None (entri
 last_of nodes edges =
     let ns = map (λ (at : ℕ). Node at) nodes in
     let es = map (λ (edge : ℕ × ℕ). Edge edge.0 edge.1) edges in
-    ap (λ (all : List Entry). last_or None (Begin ∷ all)) (sym (append_assoc ns es (End ∷ []))) ∙ last_or-more None (Begin ∷ (ns ++ es)) End
+    ap (λ (all : List Entry). last_or None (Begin 2 ∷ Profile 2 ∷ all)) (sym (append_assoc ns es (End ∷ []))) ∙ last_or-more None (Begin 2 ∷ Profile 2 ∷ (ns ++ es)) End
 
 -- what is read of the text of ascending lists
 pub record IsTextOf (text : List ℕ) (nodes : List ℕ) (edges : List (ℕ × ℕ)) : Type 0 where
   pub sound : fault_of text ≡ None
-  pub value : record_of text ≡ record_with nodes edges
+  pub value : file_of text ≡ file_with nodes edges
 
 text_read : (nodes : List ℕ) (edges : List (ℕ × ℕ)) (text : List ℕ) → text ≡ text_of nodes edges → IsSorted nat_cmp nodes → IsDistinct nat_eq nodes → IsSorted edge_cmp edges → IsDistinct is_same_edge edges
     → AllByRecursion (λ a. a < 2 ^ 64) nodes → AllByRecursion (HasBoth nodes) edges → length text ≤ 16777216 → IsTextOf text nodes edges
 text_read nodes edges text e s d t f small ends short =
     let es = entries_of nodes edges in
-    let good : AllByRecursion IsPrintable es = (tt, IsPrintable-nodes nodes _ small (IsPrintable-edges nodes edges (All-from_recursion (λ a. a < 2 ^ 64) nodes small) ends)) in
+    let good : AllByRecursion IsPrintable es = (refl, (refl, IsPrintable-nodes nodes _ small (IsPrintable-edges nodes edges (All-from_recursion (λ a. a < 2 ^ 64) nodes small) ends))) in
     let all : lines text ≡ map entry_line es = ap lines e ∙ lines-ended entry_line es (no_ends es good) in
     let numbered : lines_from 1 text ≡ enumerate_from 1 (map entry_line es) = ap (enumerate_from 1) all in
     let said = entries_printed 1 es good in
     let chain = chain_all nodes edges s d t f ends in
     let test : nat_lt 16777216 (length text) ≡ false = le-ltb 16777216 (length text) short in
-    let first = no_fault [] 1 es no_record None (record_with nodes edges) good refl refl chain in
+    let first = no_fault [] 1 es no_file None (file_with nodes edges) good refl refl chain in
     let last : last_entry (enumerate_from 1 (map entry_line es)) ≡ Some End = ap (last_or None) said ∙ last_of nodes edges in
     let over : end_fault (enumerate_from 1 (map entry_line es)) ≡ None = rw last refl in
     record {
       sound = rw (test, numbered, first, over) refl;
-      value = ap (λ (ls : List Line). record_from (entries ls)) numbered ∙ ap record_from said ∙ chain_value no_record None es (record_with nodes edges) chain;
+      value = ap (λ (ls : List Line). file_from (entries ls)) numbered ∙ ap file_from said ∙ chain_value no_file None es (file_with nodes edges) chain;
     }
 
 pub words_small : (xs : List ℕ) → ((i : ℕ) → slice_index xs i < 2 ^ 64) → AllByRecursion (λ a. a < 2 ^ 64) xs
@@ -259,10 +262,13 @@ read_back kept text nodes edges e s t p q d f small = λ ends short.
     let has_both : AllByRecursion (HasBoth nodes) edges = both_permuted kept.nodes nodes edges p
     (recursion_from_All (HasBoth kept.nodes) edges (All-permutation (HasBoth kept.nodes) kept.edges edges q ends)) in
     let read = text_read nodes edges text e s (IsDistinct-IsPermutation nat_eq nat_eq-flips kept.nodes nodes p d) t (IsDistinct-IsPermutation is_same_edge same_edge-flips kept.edges edges q f) (words_small nodes small) has_both short in
+    let listed : (record_of text).nodes ≡ nodes = ap (λ (file : TraceFile). file.rec.nodes) read.value in
+    let linked : (record_of text).edges ≡ edges = ap (λ (file : TraceFile). file.rec.edges) read.value in
     record {
       sound = read.sound;
-      nodes_ascend = rw (read.value) s;
-      edges_ascend = rw (read.value) t;
-      same_nodes = rw (read.value) p;
-      same_edges = rw (read.value) q;
+      profile = ap (λ (file : TraceFile). file.profile) read.value;
+      nodes_ascend = subst (IsSorted nat_cmp) (sym listed) s;
+      edges_ascend = subst (IsSorted edge_cmp) (sym linked) t;
+      same_nodes = subst (IsPermutation kept.nodes) (sym listed) p;
+      same_edges = subst (IsPermutation kept.edges) (sym linked) q;
     }

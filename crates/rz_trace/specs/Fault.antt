@@ -9,7 +9,7 @@ use Rattle.rz_trace.specs.declared.error.TraceFault.{TraceFault}
 use Rattle.rz_trace.specs.declared.error.TraceFault.TheVariants.{BadLine}
 use Rattle.rz_trace.specs.Grammar.{entry_of}
 use Rattle.rz_trace.specs.Order.{fits, is_end}
-use Rattle.rz_trace.specs.Value.{entries, record_from}
+use Rattle.rz_trace.specs.Value.{entries, file_from}
 
 -- what the last line says
 abbrev pub last_entry : List Line → Option Entry
@@ -26,7 +26,7 @@ line_fault kept last n line = fault_behind kept last n (entry_of (words line))
 
 -- the fault of a line behind earlier ones
 abbrev pub fault_of_line : List Line → Line → Option TraceFault
-fault_of_line earlier line = line_fault (record_from (entries earlier)) (last_entry earlier) line.0 line.1
+fault_of_line earlier line = line_fault (file_from (entries earlier)).rec (last_entry earlier) line.0 line.1
 
 -- where `end` is missing, the line behind the last is bad
 abbrev pub end_fault : List Line → Option TraceFault

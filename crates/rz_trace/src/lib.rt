@@ -3,6 +3,7 @@
 
 mod entry;
 mod error;
+mod file;
 mod line;
 mod memo;
 mod printer;
@@ -10,6 +11,7 @@ mod reader;
 mod tracer;
 
 pub use error::TraceFault;
+pub use file::TraceFile;
 pub use printer::print_trace;
 pub use reader::read_trace;
 pub use tracer::{TraceRefusal, trace};

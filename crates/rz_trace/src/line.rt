@@ -3,7 +3,7 @@
 ghost use Rattle.std.specs.Prelude.{◌≡◌};
 ghost use Rattle.std.specs.List.{list_all};
 ghost use Rattle.rz_text.specs.Lines.{words};
-ghost use Rattle.rz_trace.specs.Grammar.{address_of, entry_of as entry_said, entry_of_one as entry_of_one_word, entry_of_two as entry_of_two_words, entry_of_three as entry_of_three_words, is_plain, is_small};
+ghost use Rattle.rz_trace.specs.Grammar.{address_of, entry_of as entry_said, entry_of_one as entry_of_one_word, entry_of_two as entry_of_two_words, entry_of_three as entry_of_three_words, is_plain, is_small, one_or_two as one_or_two_said};
 
 use crate::entry::Entry;
 use rz_text::{hexadecimal, word};
@@ -38,12 +38,21 @@ fn entry_of_one(key: &[u8]) -> Option<Entry>
     }
 }
 
-// What two words say: the first line, or a node.
+// What two words say: the first line, the profile, or a node.
 fn entry_of_two(key: &[u8], value: &[u8]) -> Option<Entry>
     ensures { result ≡ entry_of_two_words key.now value.now }
 {
-    if key == b"razor-trace".as_slice() && value == b"1".as_slice() {
-        return Some(Entry::Begin);
+    if key == b"razor-trace".as_slice() {
+        return match one_or_two(value) {
+            Some(version) => Some(Entry::Begin(version)),
+            None => None,
+        };
+    }
+    if key == b"profile".as_slice() {
+        return match one_or_two(value) {
+            Some(profile) => Some(Entry::Profile(profile)),
+            None => None,
+        };
     }
     if key != b"n".as_slice() {
         return None;
@@ -51,6 +60,19 @@ fn entry_of_two(key: &[u8], value: &[u8]) -> Option<Entry>
     match address_of(value) {
         Some(at) => Some(Entry::Node(at)),
         None => None,
+    }
+}
+
+// The version or the profile that a word spells.
+fn one_or_two(word: &[u8]) -> Option<u8>
+    ensures { result ≡ one_or_two_said word.now }
+{
+    if word == b"1".as_slice() {
+        Some(1)
+    } else if word == b"2".as_slice() {
+        Some(2)
+    } else {
+        None
     }
 }
 

@@ -10,8 +10,8 @@ use rz_aset::Record;
 use rz_num::{Bytes, OutOfMemory};
 use std::alloc::Global;
 
-/// The text of a record: a line for each node in ascending order, and for each edge in ascending order, between the first and the last
-/// line. It refuses for want of memory alone.
+/// The text of a record: a line for each node in ascending order, and for each edge in ascending order, between the first two and
+/// the last line. It refuses for want of memory alone.
 pub fn print_trace(alloc: Global, kept: &Record) -> Result<Bytes, OutOfMemory>
     ensures text { IfOk result (λ text. text ≡ printed (kept_in kept.now)) }
     ensures read_back { IfOk result (λ text. ReadsBack text kept.now) }
@@ -22,7 +22,7 @@ pub fn print_trace(alloc: Global, kept: &Record) -> Result<Bytes, OutOfMemory>
     let nodes = kept.nodes.sorted(alloc)?;
     let edges = kept.edges.sorted(alloc)?;
     let mut text = Bytes::new(alloc);
-    text.push_all(b"razor-trace 1\n")?;
+    text.push_all(b"razor-trace 2\nprofile 2\n")?;
     print_nodes(alloc, &mut text, nodes.as_slice())?;
     print_edges(alloc, &mut text, edges.as_slice())?;
     text.push_all(b"end\n")?;

@@ -3,7 +3,7 @@
 use rz_elf::read::read_elf;
 use rz_listing::listing;
 use rz_num::{Bytes, OutOfMemory};
-use rz_table::Profile1;
+use rz_table::Profile2;
 use std::alloc::Global;
 use std::test::Fail;
 
@@ -37,7 +37,7 @@ fn listed(alloc: Global, at: u64, count: u32) -> Result<Option<Bytes>, OutOfMemo
     file.resize(4096, 0)?;
     file.extend_from_slice(&CODE)?;
     match read_elf(alloc, Bytes::from_vec(file)) {
-        Ok(elf) => Ok(Some(listing::<Profile1>(alloc, &elf, at, count)?)),
+        Ok(elf) => Ok(Some(listing::<Profile2>(alloc, &elf, at, count)?)),
         Err(_) => Ok(None),
     }
 }

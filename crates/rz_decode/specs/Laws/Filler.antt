@@ -1,4 +1,4 @@
-use Rattle.std.proofs.Common.{ℕ, ◌≡◌, ◌+◌, ◌*◌, ◌/◌, ◌%◌, ◌-◌, ◌≤◌, ◌<◌, ◌==◌, List, [], ◌∷◌, ◌++◌, Option, Some, None, refl, ap, sym, subst, arith, length, take, Bool, true, false, ◌&&◌, zero, suc, length-append, inl, inr}
+use Rattle.std.proofs.Common.{ℕ, ◌≡◌, ◌+◌, ◌*◌, ◌/◌, ◌%◌, ◌-◌, ◌≤◌, ◌<◌, ◌==◌, List, [], ◌∷◌, ◌++◌, Option, Some, None, refl, ap, sym, subst, arith, length, take, Bool, true, false, not, ◌&&◌, ◌||◌, zero, suc, length-append, inl, inr}
 use Rattle.std.specs.Prelude.{nat_lt}
 use Rattle.std.proofs.lemmas.Bool.Decides.{nat_tests}
 use Rattle.std.proofs.lemmas.List.{append-nil}
@@ -6,13 +6,15 @@ use Rattle.std.proofs.lemmas.Grind.{common_steps}
 use Rattle.rz_isa.specs.declared.rows.RmRule.{RmRule}
 use Rattle.rz_isa.specs.declared.rows.RmRule.TheVariants as rules
 use Rattle.rz_num.specs.Bytes.{are_bytes}
-use Rattle.rz_isa.specs.Spelling.{is_met, rule_fits, rm_fits, rm_len, second}
+use Rattle.rz_isa.specs.declared.rows.Row.{Row}
+use Rattle.rz_isa.specs.Spelling.{is_met, rule_fits, rm_fits, rm_len, second, times, prefixes_fit, may_name_memory, rm_is_memory, lock_fits}
 use Rattle.rz_isa.specs.Regular.{digit_small, rule_small}
 use Rattle.rz_isa.specs.Decoded.{takes_rm}
 use Rattle.rz_isa.specs.Laws.Exclusion.{rm_len_cases}
 use Rattle.rz_isa.specs.Laws.Tests.{equal_test}
 use Rattle.rz_isa.specs.Decoded.{rm_part}
 use Rattle.rz_decode.specs.Laws.Rejoined.{GoesOn}
+use Rattle.rz_decode.specs.Laws.Room.{locked_names}
 
 -- What fills the place of bytes that are missing.
 
@@ -34,7 +36,7 @@ digit_bits None = 0
 digit_bits (Some d) = 8 * d
 
 abbrev pub least_m : RmRule → Option ℕ → ℕ
-least_m rules.Any d = 192 + digit_bits d
+least_m rules.Any d = digit_bits d
 least_m rules.MemoryOnly d = digit_bits d
 least_m rules.RegisterOnly d = 192 + digit_bits d
 least_m (rules.Fixed b) d = b
@@ -110,6 +112,37 @@ filled_fits (Some rule) d (m ∷ rest) n ds rs t le =
   where
     sides : (a b : Bool) → (a && b) ≡ true → (a ≡ true) × (b ≡ true)
     sides a b h = (grind arith, grind arith)
+
+-- ---- where F0 stands the filled ModRM byte names memory
+
+least_memory : (rule : RmRule) (d : Option ℕ) → digit_small d ≡ true → may_name_memory (Some rule) ≡ true → (least_m rule d / 64 == 3) ≡ false
+least_memory rules.Any None ds m = refl
+least_memory rules.Any (Some d) ds m = (let l : d < 8 = grind (arith, nat_tests) in grind (arith, nat_tests))
+least_memory rules.MemoryOnly None ds m = refl
+least_memory rules.MemoryOnly (Some d) ds m = (let l : d < 8 = grind (arith, nat_tests) in grind (arith, nat_tests))
+least_memory rules.RegisterOnly d ds m = absurd (cc)
+least_memory (rules.Fixed b) d ds m = absurd (cc)
+
+memory_taken : (n : ℕ) (rm : List ℕ) → rm_is_memory rm ≡ true → rm_is_memory (take n rm) ≡ true
+memory_taken zero rm h = refl
+memory_taken (suc n) [] h = refl
+memory_taken (suc n) (m ∷ rest) h = h
+
+memory_first : (rule : Option RmRule) (d : Option ℕ) (rest ys : List ℕ) → digit_small d ≡ true → may_name_memory rule ≡ true → rm_is_memory rest ≡ true → rm_is_memory (first_rm rule d rest ++ ys) ≡ true
+memory_first None d rest ys ds m h = absurd (cc)
+memory_first (Some rule) d [] ys ds m h = ap not (least_memory rule d ds m)
+memory_first (Some rule) d (m ∷ rest) ys ds may h = h
+
+or_parts : (a b : Bool) → (a || b) ≡ true → (a ≡ false → b ≡ true)
+or_parts a b h n = grind arith
+
+or_else : (a b : Bool) → (a ≡ false → b ≡ true) → (a || b) ≡ true
+or_else true b f = refl
+or_else false b f = f refl
+
+pub filled_lock : (row : Row) (ps rest ys : List ℕ) (n : ℕ) → digit_small row.digit ≡ true → prefixes_fit row ps ≡ true → lock_fits ps rest ≡ true → lock_fits ps (take n (first_rm row.rm row.digit rest ++ ys)) ≡ true
+filled_lock row ps rest ys n ds fit lock = or_else (times 0xf0 ps == 0) _ (λ some.
+    memory_taken n _ (memory_first row.rm row.digit rest ys ds (locked_names row ps fit some) (or_parts (times 0xf0 ps == 0) (rm_is_memory rest) lock some)))
 
 pub first_longer : (rule : Option RmRule) (d : Option ℕ) (rest : List ℕ) → GoesOn rest (first_rm rule d rest)
 first_longer None d rest = record { more = []; same = sym (append-nil rest) }

@@ -11,7 +11,7 @@ use Rattle.rz_isa.specs.declared.rows.Row.{Row}
 use Rattle.rz_isa.specs.declared.rows.Size.{Size}
 use Rattle.rz_isa.specs.declared.rows.Size.TheVariants as sizes
 use Rattle.rz_num.specs.Bytes.{are_bytes}
-use Rattle.rz_isa.specs.Spelling.{Parts, bytes_of, Fits, is_prefix, is_rex, rex_fits, rex_bytes, escape, is_met, opcode_fits, prefixes_fit, w_demand, b_demand, bit_w, bit_b}
+use Rattle.rz_isa.specs.Spelling.{Parts, bytes_of, Fits, is_prefix, is_rex, rex_fits, rex_bytes, escape, is_met, opcode_fits, prefixes_fit, lock_fits, w_demand, b_demand, bit_w, bit_b}
 use Rattle.rz_isa.specs.Reading.{Opcode, skip_while, rex_at, behind_rex}
 use Rattle.rz_isa.specs.Regular.{is_regular, is_block}
 use Rattle.rz_isa.specs.Table.{same_map}
@@ -22,7 +22,7 @@ use Rattle.rz_isa.specs.Laws.Whole.{length_of}
 use Rattle.rz_isa.specs.Laws.Tests.{equal_test, and_parts, and_both}
 use Rattle.rz_isa.specs.Decoded.{Front, rm_part, imm_part, front_len, suits, front_by, front_at, second_for, opcode_for, last_opcode, least_rex}
 use Rattle.rz_decode.specs.Laws.Rejoined.{whole, front_again, same_map_is}
-use Rattle.rz_decode.specs.Laws.Filler.{zeros, length_zeros, bytes_zeros, first_rm, filled_fits, first_longer, first_bytes}
+use Rattle.rz_decode.specs.Laws.Filler.{zeros, length_zeros, bytes_zeros, first_rm, filled_fits, filled_lock, first_longer, first_bytes}
 
 -- ---- the front's REX fits, and its bytes are bytes
 
@@ -124,16 +124,17 @@ pub record Suits (row : Row) (f : Front) : Type 0 where
   pub w : is_met (w_demand row.size) (bit_w f.rex) ≡ true
   pub b : is_met (b_demand row.op row.map f.opcode.byte) (bit_b f.rex) ≡ true
   pub rm : takes_rm row.rm row.digit f.opcode.rest ≡ true
+  pub lock : lock_fits f.prefixes f.opcode.rest ≡ true
   pub room : front_len row f ≤ 15
 
-ands7 : (a b c d e f g : Bool) → (a && b && c && d && e && f && g) ≡ true → (a ≡ true) × (b ≡ true) × (c ≡ true) × (d ≡ true) × (e ≡ true) × (f ≡ true) × (g ≡ true)
-ands7 a b c d e f g h = (grind arith, grind arith, grind arith, grind arith, grind arith, grind arith, grind arith)
+ands8 : (a b c d e f g h : Bool) → (a && b && c && d && e && f && g && h) ≡ true → (a ≡ true) × (b ≡ true) × (c ≡ true) × (d ≡ true) × (e ≡ true) × (f ≡ true) × (g ≡ true) × (h ≡ true)
+ands8 a b c d e f g h x = (grind arith, grind arith, grind arith, grind arith, grind arith, grind arith, grind arith, grind arith)
 
 pub suits_of : (row : Row) (f : Front) → suits row f ≡ true → Suits row f
 suits_of row f h =
-    let t = ands7 (same_map row.map f.opcode.map) (opcode_fits row f.opcode.byte) (prefixes_fit row f.prefixes) (is_met (w_demand row.size) (bit_w f.rex)) (is_met (b_demand row.op row.map f.opcode.byte) (bit_b f.rex))
-    (takes_rm row.rm row.digit f.opcode.rest) (nat_le (front_len row f) 15) h in
-    record { map = same_map_is row.map f.opcode.map t.0; opcode = t.1; prefixes = t.2; w = t.3; b = t.4; rm = t.5; room = le _ _ t.6 }
+    let t = ands8 (same_map row.map f.opcode.map) (opcode_fits row f.opcode.byte) (prefixes_fit row f.prefixes) (is_met (w_demand row.size) (bit_w f.rex)) (is_met (b_demand row.op row.map f.opcode.byte) (bit_b f.rex))
+    (takes_rm row.rm row.digit f.opcode.rest) (lock_fits f.prefixes f.opcode.rest) (nat_le (front_len row f) 15) h in
+    record { map = same_map_is row.map f.opcode.map t.0; opcode = t.1; prefixes = t.2; w = t.3; b = t.4; rm = t.5; lock = t.6; room = le _ _ t.7 }
   where
     le : (n k : ℕ) → nat_le n k ≡ true → n ≤ k
     le n k h = grind (arith, nat_tests)
@@ -194,7 +195,7 @@ fill row bytes regular h suit =
     let g = front_again row bytes (first.more ++ zeros (n + k)) in
     let tail : t ≡ f.opcode.rest ++ (first.more ++ zeros (n + k)) = ap (λ x. x ++ zeros (n + k)) first.same ∙ append_assoc f.opcode.rest first.more (zeros (n + k)) in
     record {
-      fits = record { prefixes = s.prefixes; rex = rex_ok row bytes; w = s.w; opcode = s.opcode; b = s.b; rm = fits_rm; imm = equal_test _ _ lens.1 };
+      fits = record { prefixes = s.prefixes; lock = filled_lock row f.prefixes f.opcode.rest (zeros (n + k)) n reg.digit s.prefixes s.lock; rex = rex_ok row bytes; w = s.w; opcode = s.opcode; b = s.b; rm = fits_rm; imm = equal_test _ _ lens.1 };
       all = all_append f.prefixes _ (prefix_bytes f.prefixes (prefixes_are row f.prefixes s.prefixes))
           (all_append (rex_bytes f.rex) _ (rex_are f.rex (rex_ok row bytes))
           (all_append (escape row.map) _ (escape_are row.map)

@@ -11,10 +11,10 @@ use Rattle.rz_isa.specs.declared.rows.RmRule.{RmRule}
 use Rattle.rz_isa.specs.declared.rows.Letter.TheVariants as letters
 use Rattle.rz_isa.specs.declared.rows.Op.{Op}
 use Rattle.rz_isa.specs.declared.rows.Op.TheVariants as ops
-use Rattle.rz_isa.specs.Spelling.{Parts, Fits, SpelledBy, is_prefix, is_rex, rex_bytes, escape, is_met, rm_fits, rm_len, second, times, opcode_fits, prefixes_fit, w_demand, b_demand, bit_w, bit_b, imm_len, width_of}
+use Rattle.rz_isa.specs.Spelling.{Parts, Fits, SpelledBy, is_prefix, is_rex, rex_bytes, escape, is_met, rm_fits, rm_len, second, times, opcode_fits, prefixes_fit, lock_fits, may_name_memory, rm_is_memory, w_demand, b_demand, bit_w, bit_b, imm_len, width_of}
 use Rattle.rz_isa.specs.Reading.{Head, Opcode, skip_while, rex_at, behind_rex, second_at, opcode_at, head_at}
 use Rattle.rz_isa.specs.Regular.{is_regular, is_block, is_exchange}
-use Rattle.rz_isa.specs.Decoded.{takes_rm}
+use Rattle.rz_isa.specs.Decoded.{takes_rm, missing_f3}
 use Rattle.rz_isa.specs.Laws.Front.{head_of_spelling}
 use Rattle.rz_isa.specs.Laws.Exclusion.{IsPlain, same_maps, rm_len_cases, rm_fits_len}
 use Rattle.rz_isa.specs.Laws.Inverse.{IsRegular, regular_of}
@@ -23,7 +23,7 @@ use Rattle.rz_decode.specs.Laws.Prefixes.{stopped, passed_front}
 use Rattle.rz_isa.specs.Laws.Tests.{some_same, within_test}
 use Rattle.rz_isa.specs.Decoded.{last_opcode, second_for, opcode_for, front_by, front_at, rm_part, suits}
 use Rattle.rz_decode.specs.Laws.Rejoined.{GoesOn}
-use Rattle.rz_decode.specs.Laws.Room.{missing_fit, least_met, least_b, open_room}
+use Rattle.rz_decode.specs.Laws.Room.{locked_names, missing_fit, least_met, least_b, open_room}
 
 -- ---- the row's last opcode
 
@@ -165,8 +165,27 @@ rm_least (Some rule) digit (n ∷ a) (m ∷ b) x y fit same =
 
 -- ---- what a row spells it serves
 
-ands7 : (a b c d e f g : Bool) → a ≡ true → b ≡ true → c ≡ true → d ≡ true → e ≡ true → f ≡ true → g ≡ true → (a && b && c && d && e && f && g) ≡ true
-ands7 a b c d e f g ha hb hc hd he hf hg = grind arith
+ands8 : (a b c d e f g h : Bool) → a ≡ true → b ≡ true → c ≡ true → d ≡ true → e ≡ true → f ≡ true → g ≡ true → h ≡ true → (a && b && c && d && e && f && g && h) ≡ true
+ands8 a b c d e f g h ha hb hc hd he hf hg hh = grind arith
+
+-- where F0 stands the ModRM byte that is there names memory
+lock_open : (ps : List ℕ) → lock_fits ps [] ≡ true
+lock_open ps = by (times 0xf0 ps == 0)
+  where
+    by : (b : Bool) → (b || true) ≡ true
+    by b = grind arith
+
+lock_read : (row : Row) (ps a b x y : List ℕ) → prefixes_fit row ps ≡ true → rm_fits row.rm row.digit a ≡ true → lock_fits ps a ≡ true → a ++ y ≡ b ++ x → lock_fits ps b ≡ true
+lock_read row ps a [] x y fit rm lock same = lock_open ps
+lock_read row ps (n ∷ a) (m ∷ b) x y fit rm lock same = (let e : n ≡ m = cc in subst (λ k. lock_fits ps (k ∷ b) ≡ true) e lock)
+lock_read row ps [] (m ∷ b) x y fit rm lock same = elim (cases_Bool (times 0xf0 ps == 0)) [
+  | inl z ↦ ap (λ k. k || rm_is_memory (m ∷ b)) z
+  | inr some ↦ absurd (none_there row.rm row.digit (locked_names row ps fit some) rm)
+]
+  where
+    none_there : (rule : Option RmRule) (d : Option ℕ) → may_name_memory rule ≡ true → rm_fits rule d [] ≡ true → ⊥
+    none_there None d may fits = absurd (cc)
+    none_there (Some rule) d may fits = absurd (cc)
 
 imm_is : (row : Row) (p : Parts) → Fits row p → imm_len row.imm (width_of row.size (bit_w p.rex) (times 0x66 p.prefixes)) ≡ length p.imm
 imm_is row p fits = (let h = fits.imm in grind (arith, nat_tests))
@@ -195,15 +214,16 @@ served row p s bytes more rest plain regular h same = go (skip_while is_prefix b
         let ep : p.prefixes ≡ take_while is_prefix bytes ++ f.0 = sym (ap (λ (k : Head). k.prefixes) read) ∙ f.1 in
         let fit = subst (λ k. prefixes_fit row k ≡ true) ep h.fits.prefixes in
         let i = ap (λ k. imm_len row.imm (width_of row.size (bit_w p.rex) (times 0x66 k))) (sym ep) ∙ imm_is row p h.fits in
-        let o = open_room row (take_while is_prefix bytes) f.0 p.rex (length p.rm) (length p.imm) fit h.fits.w (rm_least row.rm row.digit p.rm [] p.rm [] h.fits.rm (append-nil p.rm)) i
+        let o = open_room row (take_while is_prefix bytes) f.0 p.rex (length p.rm) (length p.imm) reg.alone fit h.fits.w (rm_least row.rm row.digit p.rm [] p.rm [] h.fits.rm (append-nil p.rm)) i
         (subst (λ k. length k + (length (rex_bytes p.rex) + (length (escape row.map) + (1 + (length p.rm + length p.imm)))) ≤ 15) ep room) in
-        ands7 _ _ _ _ _ _ _
+        ands8 _ _ _ _ _ _ _ _
         (same_maps row.map row.map refl)
         (last_fits row reg.block)
         (missing_fit row (take_while is_prefix bytes) f.0 fit)
         (least_met row.size)
         (ap (is_met (b_demand row.op row.map (last_opcode row))) (least_b row.size) ∙ last_zero row reg)
         (takes_none row.rm row.digit)
+        (lock_open (take_while is_prefix bytes ++ missing_f3 row.f3 (take_while is_prefix bytes)))
         (within_test _ 15 o)
     go (t ∷ ts) e =
         let z = stopped is_prefix bytes rest t ts e in
@@ -218,11 +238,12 @@ served row p s bytes more rest plain regular h same = go (skip_while is_prefix b
         let lr = ap (λ k. length (rex_bytes k)) er in
         let ro : length p.prefixes + (length (rex_bytes p.rex) + (length (escape row.map) + (1 + (length p.rm + length p.imm)))) ≤ 15 = room in
         let lm = rm_least row.rm row.digit p.rm o.rest f.rest.more (p.imm ++ more) h.fits.rm f.rest.same in
-        ands7 _ _ _ _ _ _ _
+        ands8 _ _ _ _ _ _ _ _
         (same_maps row.map o.map (sym f.map))
         f.opcode
         (subst (λ k. prefixes_fit row k ≡ true) (sym ep) h.fits.prefixes)
         (subst (λ k. is_met (w_demand row.size) (bit_w k) ≡ true) (sym er) h.fits.w)
         (subst (λ k. is_met (b_demand row.op row.map o.byte) (bit_b k) ≡ true) (sym er) f.b)
         (rm_taken row.rm row.digit p.rm o.rest f.rest.more (p.imm ++ more) h.fits.rm f.rest.same)
+        (subst (λ k. lock_fits k o.rest ≡ true) (sym ep) (lock_read row p.prefixes p.rm o.rest f.rest.more (p.imm ++ more) h.fits.prefixes h.fits.rm h.fits.lock f.rest.same))
         (within_test _ 15 (sum_less (length (take_while is_prefix bytes)) (length (rex_bytes (rex_at (t ∷ ts)))) (length (escape row.map)) (rm_part row.rm o.rest) (length p.rm) _ (length p.imm) lm i (omega arith)))

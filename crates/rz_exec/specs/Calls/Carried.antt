@@ -8,7 +8,7 @@ use Rattle.rz_flags.specs.declared.Flags.{Flags}
 use Rattle.rz_image.specs.Memory.{Regions}
 use Rattle.rz_exec.specs.declared.state.Cpu.{Cpu}
 use Rattle.rz_exec.specs.declared.state.Fault.{Fault}
-use Rattle.rz_exec.specs.Form.{Effect, Completion, carry, Repeats, complete}
+use Rattle.rz_exec.specs.Form.{Effect, Completion, carry, Repeat, Repeats, complete}
 use Rattle.rz_exec.specs.Strings.{each_time}
 use Rattle.rz_exec.specs.Fault.{completion}
 
@@ -24,9 +24,13 @@ ended cpu m result = completion cpu m (fault_in result)
 abbrev pub carried : (List ℕ → Flags → Effect) → Cpu → Regions → Completion
 carried effect cpu m = carry (effect cpu.regs cpu.flags) cpu.regs cpu.flags m
 
--- an effect repeated from a state
+-- a repeat carried out from a state
+abbrev pub repeated_by : Repeat → Cpu → Regions → Completion
+repeated_by r cpu m = complete (Repeats r) cpu.regs cpu.flags m
+
+-- an effect repeated as often as RCX says
 abbrev pub repeated : (List ℕ → Flags → Effect) → Cpu → Regions → Completion
-repeated each cpu m = complete (Repeats (each_time each)) cpu.regs cpu.flags m
+repeated each cpu m = repeated_by (each_time each) cpu m
 
 -- bytes are below 256
 abbrev pub AreBytes : List ℕ → Type 0

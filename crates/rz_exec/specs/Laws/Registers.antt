@@ -13,6 +13,8 @@ use Rattle.rz_isa.specs.declared.instruction.Reg.{Reg}
 use Rattle.rz_isa.specs.declared.instruction.Reg.TheVariants.{R, High}
 use Rattle.rz_isa.specs.declared.instruction.Place.{Place}
 use Rattle.rz_isa.specs.declared.instruction.Place.TheVariants as places
+use Rattle.rz_isa.specs.declared.instruction.Rep.{Rep}
+use Rattle.rz_isa.specs.declared.instruction.Rep.TheVariants.{No, WhileEqual, WhileNot}
 use Rattle.rz_isa.specs.declared.instruction.Insn.{Insn}
 use Rattle.rz_isa.specs.declared.instruction.Insn.TheVariants as insns
 use Rattle.rz_exec.specs.Form.{NewValues, Stop, Exception, Effect, Completion, read_word, write_word, carry}
@@ -23,7 +25,9 @@ use Rattle.rz_exec.specs.Arithmetic.{is_written}
 use Rattle.rz_exec.specs.Stack.{taken_flags}
 use Rattle.rz_exec.specs.Products.{put_pair, quotient_values, divided, wide_values}
 use Rattle.rz_exec.specs.Bits.{is_changed, is_found}
+use Rattle.rz_exec.specs.Exchanges.{cmpxchg_values}
 use Rattle.rz_exec.specs.Strings.{moved, counted, movs_effect, stos_effect, elements}
+use Rattle.rz_exec.specs.Comparisons.{cmps_effect, scas_effect, comparisons}
 use Rattle.rz_exec.specs.Effect.{plain_effect}
 
 -- ---- words among words
@@ -137,7 +141,14 @@ iterate_regs p (suc n) regs flags m h keeps =
     go : (c : Completion) → AreRegs c.regs → Turns p n → AreRegs (and_then c.exception (p.follows c.flags) c (iterate p n)).regs
     go c k ih = split c.exception (p.follows c.flags) c k ih
 
--- ---- products, flags words, strings
+-- ---- exchanges, products, flags words, strings
+
+either_values_regs : (b : Bool) (new old : NewValues) → AreRegs new.regs → AreRegs old.regs → AreRegs (if b then new else old).regs
+either_values_regs true new old n o = n
+either_values_regs false new old n o = o
+
+cmpxchg_regs : (w : Width) (dst : Place) (src : Reg) (regs : List ℕ) (flags : Flags) (old : ℕ) → AreRegs regs → AreRegs (cmpxchg_values w dst src regs flags old).regs
+cmpxchg_regs w dst src regs flags old h = either_values_regs _ _ _ (put_regs w regs dst _ h) (put_reg_regs w regs 0 _ h)
 
 quotient_regs : (w : Width) (regs : List ℕ) (flags : Flags) (o : Option (ℕ × ℕ)) → AreRegs regs → GivesRegs (quotient_values w regs flags o)
 quotient_regs w regs flags None h = tt
@@ -163,6 +174,18 @@ elements_regs : (each : Bool → List ℕ → Flags → Effect) → ((rep : Bool
     → (rep : Bool) (regs : List ℕ) (flags : Flags) (m : Regions) → AreRegs regs → AreRegs (complete (elements each rep regs flags) regs flags m).regs
 elements_regs each keeps false regs flags m h = carry_regs (each false regs flags) regs flags m h (keeps false regs flags h)
 elements_regs each keeps true regs flags m h = iterate_regs _ _ regs flags m h (λ regs flags k. keeps true regs flags k)
+
+cmps_regs : (w : Width) (rep : Bool) (regs : List ℕ) (flags : Flags) → AreRegs regs → KeepsRegs (cmps_effect w rep regs flags)
+cmps_regs w rep regs flags h a b = counted_regs rep _ (moved_regs w flags 7 _ (moved_regs w flags 6 regs h))
+
+scas_regs : (w : Width) (rep : Bool) (regs : List ℕ) (flags : Flags) → AreRegs regs → KeepsRegs (scas_effect w rep regs flags)
+scas_regs w rep regs flags h a b = counted_regs rep _ (moved_regs w flags 7 regs h)
+
+comparisons_regs : (each : Bool → List ℕ → Flags → Effect) → ((rep : Bool) (regs : List ℕ) (flags : Flags) → AreRegs regs → KeepsRegs (each rep regs flags))
+    → (rep : Rep) (regs : List ℕ) (flags : Flags) (m : Regions) → AreRegs regs → AreRegs (complete (comparisons each rep regs flags) regs flags m).regs
+comparisons_regs each keeps No regs flags m h = carry_regs (each false regs flags) regs flags m h (keeps false regs flags h)
+comparisons_regs each keeps WhileEqual regs flags m h = iterate_regs _ _ regs flags m h (λ regs flags k. keeps true regs flags k)
+comparisons_regs each keeps WhileNot regs flags m h = iterate_regs _ _ regs flags m h (λ regs flags k. keeps true regs flags k)
 
 -- ---- a plain instruction
 
@@ -195,6 +218,10 @@ complete_regs (insns.Scan op w dst src) regs flags m h = carry_regs _ regs flags
 complete_regs (insns.Movs w rep) regs flags m h = elements_regs (movs_effect w) (movs_regs w) rep regs flags m h
 complete_regs (insns.Stos w rep) regs flags m h = elements_regs (stos_effect w) (stos_regs w) rep regs flags m h
 complete_regs (insns.Flag op) regs flags m h = carry_regs _ regs flags m h (λ a b. h)
+complete_regs (insns.CmpXchg w dst src) regs flags m h = carry_regs _ regs flags m h (λ a b. cmpxchg_regs w dst src regs flags (value_of w regs dst a) h)
+complete_regs (insns.Xadd w dst src) regs flags m h = carry_regs _ regs flags m h (λ a b. put_regs w _ dst _ (put_named_regs w regs src _ h))
+complete_regs (insns.Cmps w rep) regs flags m h = comparisons_regs (cmps_effect w) (cmps_regs w) rep regs flags m h
+complete_regs (insns.Scas w rep) regs flags m h = comparisons_regs (scas_effect w) (scas_regs w) rep regs flags m h
 complete_regs insns.Nop regs flags m h = carry_regs _ regs flags m h (λ a b. h)
 complete_regs (insns.Jcc c t) regs flags m h = carry_regs _ regs flags m h (λ a b. h)
 complete_regs (insns.Jrcxz t) regs flags m h = carry_regs _ regs flags m h (λ a b. h)

@@ -2,19 +2,20 @@ use Rattle.std.proofs.Common.{ℕ, ◌≡◌, ◌%◌, ◌^◌, ◌<◌, ◌==�
 use Rattle.std.specs.Prelude.{if◌then◌else◌}
 use Rattle.std.specs.Option.{option_and_then}
 use Rattle.std.proofs.lemmas.Bool.Decides.{nat_tests}
-use Rattle.rz_isa.specs.Laws.Types.{Width, OpMap, F3Rule, Size, RmRule, Row, Letter, Op, Reg, Fields}
+use Rattle.rz_isa.specs.Laws.Types.{Width, OpMap, Size, RmRule, Row, Letter, Op, Reg, Fields}
 use Rattle.rz_flags.specs.Cond.{cond_of, number_of as number_of_cond}
 use Rattle.rz_isa.specs.declared.rows.Letter.TheVariants as letters
 use Rattle.rz_isa.specs.declared.rows.Op.TheVariants as ops
 use Rattle.rz_isa.specs.declared.instruction.Reg.TheVariants as regs
 use Rattle.rz_isa.specs.Spelling.{is_met, b_demand}
-use Rattle.rz_isa.specs.Fields.{build_op, letter_width, rm_width, is_rep, place_at, operand_at, reg_at, number_of, number_at, count_at, index_at}
+use Rattle.rz_isa.specs.Fields.{build_op, letter_width, rm_width, is_rep, repeat_of, place_at, operand_at, reg_at, number_of, number_at, count_at, index_at}
 use Rattle.rz_isa.specs.Having.{has_width, has_reg, has_place, has_cond, has_imm, has_rep, bars_rex, needs_rex, in_opcode, opcode_of, b_needed, place_b, can_have}
-use Rattle.rz_isa.specs.Finding.{same_truth, same_arith, same_unary, same_wide, same_shift, same_bit, same_scan, same_change, least_width, least_place, least, with_place, with_operand, with_reg, with_number, with_count, with_index, same_width, rep_byte, found_in}
+use Rattle.rz_isa.specs.Finding.{repeat_byte, same_truth, same_arith, same_unary, same_wide, same_shift, same_bit, same_scan, same_change, least_width, least_place, least, with_place, with_operand, with_reg, with_number, with_count, with_index, same_width, rep_byte, found_in}
 use Rattle.rz_isa.specs.Regular.{is_single, width_suits, names_number, is_exchange}
 use Rattle.rz_isa.specs.Laws.Built.{imm_small}
 use Rattle.rz_isa.specs.Laws.Exclusion.{each_from_at}
 use Rattle.rz_isa.specs.Laws.Tests.{equal_is}
+use Rattle.std.proofs.lemmas.Bool.{cases_Bool}
 
 -- ---- fields that are those of others or the least that a row has
 
@@ -102,8 +103,18 @@ cond_low span n h = grind (arith, nat_tests)
 pub cond_found : (span n : ℕ) → has_cond span n ≡ true → number_of_cond (cond_of (n % 16)) ≡ n
 cond_found span n h = cond_back n (cond_low span n h)
 
-pub rep_found : (r : F3Rule) (n : ℕ) → has_rep r n ≡ true → rep_byte (is_rep n) ≡ n
-rep_found r n h1 = grind (arith, nat_tests)
+pub rep_found : (n : ℕ) → (rep_byte (is_rep n) ≡ n) ⊎ (rep_byte (is_rep n) ≡ 0)
+rep_found n = elim (cases_Bool (n == 0xf3)) [
+  | inl y ↦ inl (grind (arith, nat_tests))
+  | inr k ↦ inr (ap rep_byte k)
+]
+
+-- the same of a comparison that repeats
+pub repeat_found : (n : ℕ) → (repeat_byte (repeat_of n) ≡ n) ⊎ (repeat_byte (repeat_of n) ≡ 0)
+repeat_found n = elim (cases_Bool (n == 0xf3)) [
+  | inl y ↦ inl (grind (arith, nat_tests))
+  | inr a ↦ elim (cases_Bool (n == 0xf2)) [ inl y ↦ inl (grind (arith, nat_tests)) | inr b ↦ inr (grind (arith, nat_tests)) ]
+]
 
 pub single_width : (c : Size) (w : Width) → is_single c ≡ true → has_width c w ≡ true → least_width c ≡ w
 single_width c w h1 h2 = grind (arith, nat_tests)
@@ -176,8 +187,8 @@ cut16 n lt = omega arith
 cond_below : (row : Row) (f b : Fields) (n : ℕ) → n ≡ f.cond → Below row b f → Below row (record b { cond = n }) f
 cond_below row f b n e h = record { w = h.w; reg = h.reg; rm = h.rm; cond = inl e; imm = h.imm; rep = h.rep }
 
-rep_below : (row : Row) (f b : Fields) (n : ℕ) → n ≡ f.rep → Below row b f → Below row (record b { rep = n }) f
-rep_below row f b n e h = record { w = h.w; reg = h.reg; rm = h.rm; cond = h.cond; imm = h.imm; rep = inl e }
+rep_below : (row : Row) (f b : Fields) (n : ℕ) → (n ≡ f.rep) ⊎ (n ≡ 0) → Below row b f → Below row (record b { rep = n }) f
+rep_below row f b n e h = record { w = h.w; reg = h.reg; rm = h.rm; cond = h.cond; imm = h.imm; rep = e }
 
 -- the least fields where the operation doesn't name its width
 alone : (row : Row) (f : Fields) → is_single row.size ≡ true → has_width row.size f.w ≡ true → Below row (least row) f
@@ -226,8 +237,10 @@ again ops.Nop row f h = record { g = least row; found = refl; below = inr refl; 
 again (ops.Bswap d) row f h = free _ row f (λ m k n. refl) (number_again row d f _ (h.number refl) (width_below row f))
 again (ops.BitTest o d i) row f h = free _ row f (λ m k n. refl) (same row f (same_bit o o) _ (grind arith) (both_again row f _ _ (place_again row d f _ (width_below row f)) (λ m k. index_again row i f m h.small (h.number refl) k)))
 again (ops.Scan o d s) row f h = free _ row f (λ m k n. refl) (same row f (same_scan o o) _ (grind arith) (number_place_again row d s f _ (h.number refl) (width_below row f)))
-again ops.Movs row f h = free _ row f (λ m k n. refl) (stays row f _ (rep_below row f _ _ (rep_found row.f3 f.rep h.rep) (width_below row f)))
-again ops.Stos row f h = free _ row f (λ m k n. refl) (stays row f _ (rep_below row f _ _ (rep_found row.f3 f.rep h.rep) (width_below row f)))
+again ops.Movs row f h = free _ row f (λ m k n. refl) (stays row f _ (rep_below row f _ _ (rep_found f.rep) (width_below row f)))
+again ops.Stos row f h = free _ row f (λ m k n. refl) (stays row f _ (rep_below row f _ _ (rep_found f.rep) (width_below row f)))
+again ops.Cmps row f h = free _ row f (λ m k n. refl) (stays row f _ (rep_below row f _ _ (repeat_found f.rep) (width_below row f)))
+again ops.Scas row f h = free _ row f (λ m k n. refl) (stays row f _ (rep_below row f _ _ (repeat_found f.rep) (width_below row f)))
 again (ops.Flag o) row f h = free _ row f (λ m k n. refl) (same row f (same_change o o) _ (grind arith) (stays row f _ (alone row f h.single h.w)))
 again (ops.Xchg letters.O letters.A) row f h =
     let g : Fields = record (least row) { w = f.w; reg = f.reg } in
@@ -235,6 +248,8 @@ again (ops.Xchg letters.O letters.A) row f h =
 again (ops.Xchg d s) row f h =
     let r = both_again row f _ _ (place_again row d f _ (width_below row f)) (λ m k. reg_again row s f m k) in
     record { g = r.0; found = r.1.0; below = inl r.1.1; b = refl }
+again (ops.CmpXchg d s) row f h = free _ row f (λ m k n. refl) (both_again row f _ _ (place_again row d f _ (width_below row f)) (λ m k. reg_again row s f m k))
+again (ops.Xadd d s) row f h = free _ row f (λ m k n. refl) (both_again row f _ _ (place_again row d f _ (width_below row f)) (λ m k. reg_again row s f m k))
 again ops.Jrcxz row f h = free _ row f (λ m k n. refl) (stays row f _ (imm_below row f _ f.imm refl (alone row f h.single h.w)))
 again ops.Jmp row f h = free _ row f (λ m k n. refl) (stays row f _ (imm_below row f _ f.imm refl (alone row f h.single h.w)))
 again ops.Call row f h = free _ row f (λ m k n. refl) (stays row f _ (imm_below row f _ f.imm refl (alone row f h.single h.w)))

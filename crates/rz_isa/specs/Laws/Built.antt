@@ -172,6 +172,8 @@ built ops.Ret (insns.Ret pop) f g a small e = grind (arith, nat_tests)
 built ops.Convert (insns.Convert w) f g a small e = ap (λ (k : Fields). insns.Convert k.w) (sym (some_same _ g e))
 built ops.SignFill (insns.SignFill w) f g a small e = ap (λ (k : Fields). insns.SignFill k.w) (sym (some_same _ g e))
 built (ops.Xchg d s) (insns.Xchg w dst src) f g a small e = let r = place_and d dst (reg_slot s) _ (with_reg s src) _ g a (λ m em. with_reg-step s src m g em) e in λ i. insns.Xchg (r.0.w i) (r.0.dst i) (r.1 i)
+built (ops.CmpXchg d s) (insns.CmpXchg w dst src) f g a small e = let r = place_and d dst (reg_slot s) _ (with_reg s src) _ g a (λ m em. with_reg-step s src m g em) e in λ i. insns.CmpXchg (r.0.w i) (r.0.dst i) (r.1 i)
+built (ops.Xadd d s) (insns.Xadd w dst src) f g a small e = let r = place_and d dst (reg_slot s) _ (with_reg s src) _ g a (λ m em. with_reg-step s src m g em) e in λ i. insns.Xadd (r.0.w i) (r.0.dst i) (r.1 i)
 built ops.Nop insns.Nop f g a small e = refl
 built (ops.Bswap d) (insns.Bswap w reg) f g a small e = grind (arith, nat_tests)
 built (ops.BitTest o d k) (insns.BitTest p w dst index) f g a small e =
@@ -186,6 +188,8 @@ built (ops.Scan o d s) (insns.Scan p w dst src) f g a small e =
     λ i. insns.Scan (q i) (r.w i) (r.dst i) (r.src i)
 built ops.Movs (insns.Movs w rep) f g a small e = grind (arith, nat_tests)
 built ops.Stos (insns.Stos w rep) f g a small e = grind (arith, nat_tests)
+built ops.Cmps (insns.Cmps w rep) f g a small e = grind (arith, nat_tests)
+built ops.Scas (insns.Scas w rep) f g a small e = grind (arith, nat_tests)
 built (ops.Flag o) (insns.Flag p) f g a small e = grind arith
 built ops.Syscall insns.Syscall f g a small e = refl
 built ops.Ud2 insns.Ud2 f g a small e = refl

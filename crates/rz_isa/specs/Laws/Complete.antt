@@ -8,7 +8,7 @@ use Rattle.rz_isa.specs.declared.rows.ImmKind.TheVariants as imms
 use Rattle.rz_isa.specs.declared.instruction.Place.TheVariants as places
 use Rattle.rz_num.specs.Bytes.{are_bytes}
 use Rattle.rz_isa.specs.Number.{number, numbers, extended, displaced_by}
-use Rattle.rz_isa.specs.Spelling.{Parts, Fits, bit_w, bit_r, bit_x, bit_b, is_met, w_demand, b_demand, disp_len, rm_len, second, rm_fits, width_of, width_at, imm_len, times}
+use Rattle.rz_isa.specs.Spelling.{Parts, Fits, bit_w, bit_r, bit_x, bit_b, is_met, w_demand, b_demand, disp_len, rm_len, second, rm_fits, opcode_fits, width_of, width_at, imm_len, times}
 use Rattle.rz_isa.specs.Fields.{reg_of, index_of, base_of, sib_mem, base_mem, behind_one, place_of, rm_place, rm_width, reg_number, imm_of, repeat_in, rep_of, fields}
 use Rattle.rz_isa.specs.Having.{has_width, code_of, is_register, is_first, is_high, is_low_byte, in_reg_field, in_opcode, is_number, is_index, is_memory, names_register, names_memory, has_place, has_cond, has_imm, is_repeat, has_rep, w_needed, x_needed, place_b, b_needed, rex_needed, low_byte_place, high_place, needs_rex, bars_rex, opcode_of, can_have}
 use Rattle.rz_isa.specs.Regular.{is_regular, is_block}
@@ -159,7 +159,7 @@ imm_had (Some imms.J8) w next bs h len = address_small (next + extended bs)
 imm_had (Some imms.J32) w next bs h len = address_small (next + extended bs)
 
 pub repeat_in-is : (ps : List ℕ) → is_repeat (repeat_in ps) ≡ true
-repeat_in-is ps = if_both (λ k. is_repeat k ≡ true) (times 0xf3 ps == 0) 0 0xf3 (λ _. refl) (λ _. refl)
+repeat_in-is ps = if_both (λ k. is_repeat k ≡ true) (nat_lt 0 (times 0xf3 ps)) 0xf3 (if nat_lt 0 (times 0xf2 ps) then 0xf2 else 0) (λ _. refl) (λ _. if_both (λ k. is_repeat k ≡ true) (nat_lt 0 (times 0xf2 ps)) 0xf2 0 (λ _. refl) (λ _. refl))
 
 pub rep_of_prefixes : (r : F3Rule) (b : ℕ) → is_repeat b ≡ true → has_rep r (rep_of r b) ≡ true
 rep_of_prefixes r b h1 = grind (arith, nat_tests)
@@ -270,9 +270,13 @@ rex_joined row p next fit = by_rex p.rex refl
 pub eight_aligned : (r : Row) → is_block r ≡ true → (r.span == 8) ≡ true → r.opcode % 8 ≡ 0
 eight_aligned r b s = grind (arith, nat_tests)
 
+demand_by : (row : Row) (p : Parts) (next : ℕ) → IsRegular row → opcode_fits row p.opcode ≡ true → is_met (b_demand row.op row.map p.opcode) (bit_b p.rex) ≡ true → rm_fits row.rm row.digit p.rm ≡ true
+    → is_met (b_demand row.op row.map (opcode_of row (fields row p next))) (b_needed row (fields row p next)) ≡ true
+demand_by row p next h1 h2 h3 h4 = grind (arith, nat_tests)
+
 pub demand_met : (row : Row) (p : Parts) (next : ℕ) → IsRegular row → Fits row p
     → is_met (b_demand row.op row.map (opcode_of row (fields row p next))) (b_needed row (fields row p next)) ≡ true
-demand_met row p next h1 h2 = grind (arith, nat_tests)
+demand_met row p next regular fit = demand_by row p next regular fit.opcode fit.b fit.rm
 
 -- ---- all tests
 

@@ -7,7 +7,7 @@ use Rattle.rz_isa.specs.declared.rows.RmRule.TheVariants as rules
 use Rattle.rz_isa.specs.declared.instruction.Reg.TheVariants as regs
 use Rattle.rz_isa.specs.declared.instruction.Place.TheVariants as places
 use Rattle.rz_num.specs.Bytes.{are_bytes}
-use Rattle.rz_isa.specs.Spelling.{times, most_66, takes_66, prefixes_fit, f3_demand, is_rex, rex_fits, bit_w, bit_r, bit_x, bit_b, is_met, w_demand, rm_fits, rule_fits, width_of}
+use Rattle.rz_isa.specs.Spelling.{times, most_66, most_f2, takes_66, prefixes_fit, lock_fits, f3_demand, is_rex, rex_fits, bit_w, bit_r, bit_x, bit_b, is_met, w_demand, rm_fits, rule_fits, width_of}
 use Rattle.rz_isa.specs.Fields.{reg_of, place_of, rm_place, rm_width, reg_field, reg_number, repeat_in, rep_of}
 use Rattle.rz_isa.specs.Having.{is_half, has_width, code_of, is_register, is_first, is_high, is_low_byte, in_reg_field, in_opcode, has_reg, is_number, is_index, is_disp, names_register, names_memory, is_first_place, has_place, is_repeat, has_rep, w_needed, r_needed, x_needed, place_b, b_needed, rex_needed, low_byte_place, high_place, needs_rex}
 use Rattle.rz_isa.specs.Canonical.{repeat_prefix, prefixes_for, rex_for, place_bytes, reg_bits, rm_bytes, place_reaches}
@@ -30,14 +30,23 @@ most_when row t = grind (arith, nat_tests)
 pub repeat_prefix-is : (r : F3Rule) (n : ℕ) → has_rep r n ≡ true → is_repeat (repeat_prefix r n) ≡ true
 repeat_prefix-is r n h1 = grind (arith, nat_tests)
 
-f3_met : (r : F3Rule) (rep : ℕ) → is_met (f3_demand r) (if repeat_prefix r rep == 0 then 0 else 1) ≡ true
+f3_met : (r : F3Rule) (rep : ℕ) → is_met (f3_demand r) (if repeat_prefix r rep == 0xf3 then 1 else 0) ≡ true
 f3_met r rep = grind (arith, nat_tests)
 
-prefixes_by : (row : Row) (a : Bool) (b : ℕ) → is_repeat b ≡ true → (a ≡ true → nat_le 1 (most_66 row) ≡ true) → is_met (f3_demand row.f3) (if b == 0 then 0 else 1) ≡ true → prefixes_fit row (prefixes_for a b) ≡ true
-prefixes_by row a b h1 h2 h3 = grind (arith, nat_tests)
+f2_allowed : (r : F3Rule) (n : ℕ) → has_rep r n ≡ true → (repeat_prefix r n == 0xf2) ≡ true → nat_le 1 (most_f2 r) ≡ true
+f2_allowed r n h1 h2 = grind (arith, nat_tests)
+
+prefixes_by : (row : Row) (a : Bool) (b : ℕ) → is_repeat b ≡ true → (a ≡ true → nat_le 1 (most_66 row) ≡ true) → ((b == 0xf2) ≡ true → nat_le 1 (most_f2 row.f3) ≡ true)
+    → is_met (f3_demand row.f3) (if b == 0xf3 then 1 else 0) ≡ true → prefixes_fit row (prefixes_for a b) ≡ true
+prefixes_by row a b h1 h2 h3 h4 = grind (arith, nat_tests)
+
+-- no F0 stands
+pub lock_ok : (a : Bool) (b : ℕ) (rm : List ℕ) → is_repeat b ≡ true → lock_fits (prefixes_for a b) rm ≡ true
+lock_ok a b rm h1 = grind (arith, nat_tests)
 
 pub prefixes_ok : (row : Row) (f : Fields) → Had row f → prefixes_fit row (prefixes_for (is_half f.w) (repeat_prefix row.f3 f.rep)) ≡ true
-prefixes_ok row f h = prefixes_by row (is_half f.w) (repeat_prefix row.f3 f.rep) (repeat_prefix-is row.f3 f.rep h.rep) (λ e. most_when row (half_takes row.size f.w h.w e)) (f3_met row.f3 f.rep)
+prefixes_ok row f h = prefixes_by row (is_half f.w) (repeat_prefix row.f3 f.rep) (repeat_prefix-is row.f3 f.rep h.rep) (λ e. most_when row (half_takes row.size f.w h.w e))
+    (f2_allowed row.f3 f.rep h.rep) (f3_met row.f3 f.rep)
 
 pub times_66 : (a : Bool) (b : ℕ) → is_repeat b ≡ true → times 0x66 (prefixes_for a b) ≡ (if a then 1 else 0)
 times_66 a b h1 = grind (arith, nat_tests)

@@ -226,7 +226,7 @@ short rows x at k row g reg s same e had p near = spelled_within rows x at forms
 
 -- no F3
 abbrev pub row_of : OpMap → ℕ → ℕ → Option ℕ → Option RmRule → Size → Option ImmKind → Form → Op → Row
-row_of map opcode span digit rm size imm form op = record { map = map; opcode = opcode; span = span; digit = digit; rm = rm; f3 = f3s.No; size = size; imm = imm; form = form; op = op }
+row_of map opcode span digit rm size imm form op = record { map = map; opcode = opcode; span = span; digit = digit; rm = rm; f3 = f3s.No; lock = false; size = size; imm = imm; form = form; op = op }
 
 abbrev pub load_row : Row
 load_row = row_of maps.One 0x8b 1 None (Some rules.Any) sizes.V None forms.Near (ops.Mov letters.G letters.E)

@@ -9,10 +9,11 @@ use Rattle.rz_isa.specs.declared.rows.Op.TheVariants as ops
 use Rattle.rz_isa.specs.declared.instruction.Insn.TheVariants as insns
 use Rattle.rz_isa.specs.Fields.{place_at, operand_at, reg_at, number_of, number_at, count_at, index_at, letter_width, rm_width, build_op}
 use Rattle.rz_isa.specs.Insn.{target_of, rip_of, rip_of_operand, first_some, rip_target_of}
+use Rattle.rz_isa.specs.Spelling.{is_one}
 use Rattle.rz_isa.specs.Having.{has_width, has_reg, has_place}
 use Rattle.rz_isa.specs.Finding.{same_truth}
 use Rattle.rz_isa.specs.Regular.{is_regular}
-use Rattle.rz_isa.specs.Suited.{letter_suits, letters_of, has_condition, has_target, has_repeat, is_displacement, is_repeats, prefixes_suit, is_indirect, is_wide_class, form_suits, is_suited}
+use Rattle.rz_isa.specs.Suited.{letter_suits, letters_of, has_condition, has_target, has_repeat, is_displacement, is_repeats, has_two_repeats, is_repeats_both, stands_alone_at, lock_suits, prefixes_suit, is_indirect, is_wide_class, form_suits, is_suited}
 use Rattle.rz_isa.specs.Spells.{next_address}
 use Rattle.rz_isa.specs.Emitted.{is_wide_operand, indirect_operand}
 use Rattle.rz_isa.specs.Targets.{IgnoresPlace, RipTargets, DirectTargets, IndirectOperands}
@@ -113,6 +114,8 @@ rip_targets (ops.Set d) = by_place (ops.Set d) d (λ q f. insns.Set (cond_of (f.
 rip_targets (ops.CallInd s) = by_place (ops.CallInd s) s (λ q f. insns.CallInd q) (λ f. refl) (λ q f p. refl) (λ q f. refl)
 rip_targets (ops.JmpInd s) = by_place (ops.JmpInd s) s (λ q f. insns.JmpInd q) (λ f. refl) (λ q f p. refl) (λ q f. refl)
 rip_targets (ops.Xchg d s) = by_place (ops.Xchg d s) d (λ q f. insns.Xchg f.w q (reg_at s f)) (λ f. refl) (λ q f p. ap (insns.Xchg f.w q) (reg_same s f p)) (λ q f. refl)
+rip_targets (ops.CmpXchg d s) = by_place (ops.CmpXchg d s) d (λ q f. insns.CmpXchg f.w q (reg_at s f)) (λ f. refl) (λ q f p. ap (insns.CmpXchg f.w q) (reg_same s f p)) (λ q f. refl)
+rip_targets (ops.Xadd d s) = by_place (ops.Xadd d s) d (λ q f. insns.Xadd f.w q (reg_at s f)) (λ f. refl) (λ q f p. ap (insns.Xadd f.w q) (reg_same s f p)) (λ q f. refl)
 rip_targets (ops.BitTest o d i) = by_place (ops.BitTest o d i) d (λ q f. insns.BitTest o f.w q (index_at i f)) (λ f. refl) (λ q f p. ap (insns.BitTest o f.w q) (index_same i f p)) (λ q f. refl)
 rip_targets (ops.Scan o d s) = by_place (ops.Scan o d s) s (λ q f. insns.Scan o f.w (number_at d f) q) (λ f. refl) (λ q f p. ap (λ n. insns.Scan o f.w n q) (number_same d f p)) (λ q f. refl)
 rip_targets (ops.Bswap d) = inl (record { same = λ f p. ap (insns.Bswap f.w) (number_same d f p); none = λ f. refl })
@@ -122,6 +125,17 @@ rip_targets _ = inl (record { same = λ f p. refl; none = λ f. refl })
 
 same_truth-is : (a b : Bool) → same_truth a b ≡ true → a ≡ b
 same_truth-is a b e = grind arith
+
+-- where two repeat prefixes may stand, the operation repeats in two ways
+prefixes_parts : (a b c : Bool) → (a && b && c) ≡ true → b ≡ true
+prefixes_parts a b c h = grind arith
+
+suits_prefixes : (a b c d e f g : Bool) → (a && b && c && d && e && f && g) ≡ true → e ≡ true
+suits_prefixes a b c d e f g h = grind arith
+
+pub suited_repeats : (r : Row) → is_suited r ≡ true → has_two_repeats r.op ≡ is_repeats_both r.f3
+suited_repeats r h = same_truth-is _ _ (prefixes_parts (if is_one r.map then stands_alone_at r 0xe8 else stands_alone_at r 0x1f) _ (lock_suits r)
+    (suits_prefixes (list_all (letter_suits r) (letters_of r.op)) (same_truth (has_condition r.op) (r.span == 16)) (same_truth (has_target r.op) (is_displacement r.imm)) (same_truth (has_repeat r.op) (is_repeats r.f3)) (prefixes_suit r) (not (is_indirect r.op) || is_wide_class r.size) (form_suits r.form r.imm) h))
 
 suits_all : (a b c d e f g : Bool) → (a && b && c && d && e && f && g) ≡ true → (c ≡ true) × (f ≡ true) × (g ≡ true)
 suits_all a b c d e f g h = (grind arith, grind arith, grind arith)

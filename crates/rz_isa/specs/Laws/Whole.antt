@@ -18,7 +18,7 @@ use Rattle.rz_isa.specs.Laws.Inverse.{IsRegular, regular_of}
 use Rattle.rz_isa.specs.Laws.Complete.{eight_aligned, fields_had}
 use Rattle.rz_isa.specs.Laws.Read.{little_bytes, little_length}
 use Rattle.rz_isa.specs.Laws.Sound.{imm_again}
-use Rattle.rz_isa.specs.Laws.Parts.{repeat_prefix-is, prefixes_ok, repeat_again, rep_again, w_is, width_read, bits, reg_field_suits, place_suits, RmGiven, rm_read}
+use Rattle.rz_isa.specs.Laws.Parts.{repeat_prefix-is, prefixes_ok, lock_ok, repeat_again, rep_again, w_is, width_read, bits, reg_field_suits, place_suits, RmGiven, rm_read}
 use Rattle.rz_isa.specs.Laws.Tests.{and_parts, and_both, below_test, within_test, equal_test}
 
 -- The canonical parts of fields are spelled by their row and read as the fields.
@@ -77,6 +77,7 @@ parts_read row f next regular can ln near =
     record {
       fits = record {
         prefixes = prefixes_ok row f h;
+        lock = lock_ok (is_half f.w) (repeat_prefix row.f3 f.rep) p.rm (repeat_prefix-is row.f3 f.rep h.rep);
         rex = b.fits;
         w = subst (λ k. is_met (w_demand row.size) k ≡ true) (sym b.w) (w_is row.size f.w h.w);
         opcode = o.fits;
@@ -118,7 +119,7 @@ rm_short rule digit bs h1 = grind (arith, nat_tests)
 imm_full : (k : Option ImmKind) (w : Width) → imm_len k w ≤ 8
 imm_full k w = grind (arith, nat_tests)
 
-imm_beside : (k : Option ImmKind) (w : Width) → stands_alone k ≡ false → imm_len k w ≤ 4
+pub imm_beside : (k : Option ImmKind) (w : Width) → stands_alone k ≡ false → imm_len k w ≤ 4
 imm_beside k w h1 = grind (arith, nat_tests)
 
 beside : (a : Bool) → not (a && true) ≡ true → a ≡ false

@@ -16,6 +16,6 @@ loop-n-preserved c =
     let few = rw c.in-Some.ensures.some at c.loop-n.invariant.1 in
     let done = c.in_ok-read_line.ensures in
     let passed = done.passed in (
-      IsDraft-more c.args.bytes.now c.loop-n.draft.kept _ c.loop-n.draft.last _ c.loop-n.draft.passed _ (c.in-Some.n, c.in-Some.line.now) _ so_far done.sound done.added done.last passed,
+      IsDraft-more c.args.bytes.now c.loop-n.draft.file _ c.loop-n.draft.last _ c.loop-n.draft.passed _ (c.in-Some.n, c.in-Some.line.now) _ so_far done.sound done.added done.last passed,
       omega (arith, few, passed),
     )
