@@ -9,8 +9,8 @@ ghost use Rattle.rz_exec.specs.Fault.{completion, plain_completion};
 
 use crate::state::{Cpu, Fault};
 use crate::{
-    arithmetic, bits, comparisons, conditions, exchanges, flag_changes, moves, products, repeats, shifts, stack,
-    strings,
+    arithmetic, bits, comparisons, conditions, exchanges, flag_changes, moves, products, repeats,
+    shifts, stack, strings,
 };
 use rz_flags::ArithOp;
 use rz_image::memory::Memory;

@@ -196,8 +196,11 @@ chain_all : (nodes : List ℕ) (edges : List (ℕ × ℕ)) → IsSorted nat_cmp 
     → AllByRecursion (HasBoth nodes) edges → Chain no_file None (entries_of nodes edges) (file_with nodes edges)
 chain_all nodes edges s d t e ends = (
   refl,
-  (refl, chain_nodes nodes [] (Some (Profile 2)) (map (λ (edge : ℕ × ℕ). Edge edge.0 edge.1) edges ++ End ∷ []) (file_with nodes edges) (nodes_fit nodes s d) (Fresh-start nat_eq nodes d) tt
-      (λ l early. chain_edges nodes edges [] l (edges_fit l edges early t e) (Fresh-start is_same_edge edges e) ends (end_early l early))),
+  (
+    refl,
+    chain_nodes nodes [] (Some (Profile 2)) (map (λ (edge : ℕ × ℕ). Edge edge.0 edge.1) edges ++ End ∷ []) (file_with nodes edges) (nodes_fit nodes s d) (Fresh-start nat_eq nodes d) tt
+        (λ l early. chain_edges nodes edges [] l (edges_fit l edges early t e) (Fresh-start is_same_edge edges e) ends (end_early l early)),
+  ),
 )
 
 -- ---- the round trip

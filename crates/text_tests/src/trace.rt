@@ -5,7 +5,8 @@ use rz_trace::{TraceFault, print_trace, read_trace};
 
 #[test]
 fn prints_what_it_reads(rt: HostRuntime) -> Result<(), std::test::Fail> {
-    let lines = b"razor-trace 2\nprofile 2\nn 0x5\nn 0x401000\ne 0x5 0x401000\ne 0x401000 0x5\nend\n";
+    let lines =
+        b"razor-trace 2\nprofile 2\nn 0x5\nn 0x401000\ne 0x5 0x401000\ne 0x401000 0x5\nend\n";
     let text = Bytes::from_slice(rt.alloc(), lines)?;
     let file = read_trace(rt.alloc(), &text)?;
     assert_eq!(rt; file.rec.nodes.as_slice(), [5, 0x40_1000].as_slice());
