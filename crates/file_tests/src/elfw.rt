@@ -178,6 +178,13 @@ fn written(
     write_elf(rt.alloc(), elf, &parts, parts.base + 8196)
 }
 
+/// The written file of the example.
+pub fn written_example(rt: &(impl Abort + AllocGlobal)) -> Result<Bytes, Fail> {
+    let elf = read_elf(rt.alloc(), file(rt.alloc())?)?;
+    let extent = extent_of(&elf);
+    Ok(written(rt, &elf, &extent)?)
+}
+
 #[test]
 fn headers_stand_at_their_offsets(rt: HostRuntime) -> Result<(), Fail> {
     let elf = read_elf(rt.alloc(), file(rt.alloc())?)?;

@@ -8,4 +8,8 @@ mod elfw;
 #[cfg(test)]
 mod generator;
 #[cfg(test)]
+mod label;
+#[cfg(test)]
 mod outside;
+#[cfg(test)]
+mod symbols;

@@ -1,0 +1,3 @@
+pub mod LabelLaws
+pub mod SectionLaws
+pub mod Unchanged

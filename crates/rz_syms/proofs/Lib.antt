@@ -1,0 +1,10 @@
+pub mod Ascending
+pub mod Counts
+pub mod FaultLaws
+pub mod LoadLaws
+pub mod NameLaws
+pub mod PlaceLaws
+pub mod ResolveLaws
+pub mod SymbolLaws
+pub mod TableLaws
+pub mod TakenLaws

@@ -1,0 +1,4 @@
+pub mod Found
+pub mod Named
+pub mod Ordered
+pub mod Placed

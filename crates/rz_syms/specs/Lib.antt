@@ -1,0 +1,6 @@
+pub mod Calls
+pub mod Fault
+pub mod Listing
+pub mod Resolved
+pub mod Sections
+pub mod Symbols
