@@ -9,7 +9,7 @@ use Rattle.rz_machine.specs.declared.machine.Machine.{Machine}
 use Rattle.rz_gen.specs.Generated.{generated}
 use Rattle.rz_machine.specs.Start.{start}
 use Rattle.rz_machine.specs.State.{after}
-use Rattle.rz_replay.specs.Counted.{steps_made}
+use Rattle.rz_machine.specs.Until.{steps_made}
 use Rattle.rz_replay.specs.RunText.{last_line}
 use Rattle.rz_paths.specs.declared.level.Level.TheVariants as level
 use Rattle.rz_core.specs.Decoding.{decode_profile}

@@ -135,6 +135,7 @@ module _ (p : Planned) (old new : Files) (r : Read) (read : AreTaken (holds old)
         out = out;
         keeps = is.keeps;
         paced = is.paced;
+        costs = is.costs;
         inert = is.inert;
         uncut = is.uncut;
       }

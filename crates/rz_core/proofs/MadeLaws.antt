@@ -22,7 +22,7 @@ use Rattle.rz_elf.specs.PlainImage.{IsPlainRegion, IsPlainImage}
 use Rattle.rz_rewrite.specs.declared.refusal.Refusal.{Refusal}
 use Rattle.rz_rewrite.specs.declared.refusal.Refusal.TheVariants as refusal
 use Rattle.rz_rewrite.specs.Refusals.{rip_reach_of, no_room_for, IsRefusal}
-use Rattle.rz_rewrite.specs.Rewritten.{CanRewrite, IsPaced}
+use Rattle.rz_rewrite.specs.Rewritten.{CanRewrite, HasCosts, IsPaced}
 use Rattle.rz_elf.specs.Laws.Loads.{loaded_image}
 use Rattle.rz_image.specs.Laws.Cells.{IsFixed, all_map, none_self_written}
 use Rattle.rz_elf.specs.Laws.PlainAccepted.{accepted_plain}
@@ -68,8 +68,9 @@ module _ (level : Level) (limit : ℕ) (from : Sources) (rec kept : Record) (rec
     -- what is made of a file for it
     module _ (stay : AllStay limit from.exe from.inputs) where
       pub debloated_of : (w : List ℕ) → IsWithin rec kept → rip_reach_of decode_profile from.exe (kept_in kept) ≡ None → no_room_for decode_profile from.exe (kept_in kept) ≡ None
-          → Keeps decode_profile from.exe w (kept_in kept) → IsPaced decode_profile from.exe w (kept_in kept) → Inert decode_profile from.exe w (kept_in kept) → IsDebloated level limit from w
-      debloated_of w within reach room runs paced inert =
+          → Keeps decode_profile from.exe w (kept_in kept) → IsPaced decode_profile from.exe w (kept_in kept) → HasCosts decode_profile from.exe w (kept_in kept)
+          → Inert decode_profile from.exe w (kept_in kept) → IsDebloated level limit from w
+      debloated_of w within reach room runs paced costs inert =
           record {
             stay = stay;
             kept = kept_in kept;
@@ -78,6 +79,7 @@ module _ (level : Level) (limit : ℕ) (from : Sources) (rec kept : Record) (rec
             room = room;
             keeps = runs;
             paced = paced;
+            costs = costs;
             uncut = all_uncut limit from.exe kept.edges from.inputs
                 (subst (λ (k : Kept). (a b : ℕ) → has_edge k.edges a b ≡ true → has_edge kept.edges a b ≡ true) recorded within.edges) stay;
             inert = inert;

@@ -17,7 +17,7 @@ use Rattle.rz_machine.specs.Keeps.{Keeps}
 use Rattle.rz_machine.specs.Recorded.{IsUncut}
 use Rattle.rz_machine.specs.WrittenFile.{Inert}
 use Rattle.rz_rewrite.specs.Refusals.{rip_reach_of, no_room_for}
-use Rattle.rz_rewrite.specs.Rewritten.{IsPaced}
+use Rattle.rz_rewrite.specs.Rewritten.{HasCosts, IsPaced}
 use Rattle.rz_report.specs.Report.{debloat_report_of}
 use Rattle.rz_core.specs.declared.status.Status.{Status}
 use Rattle.rz_core.specs.declared.status.Status.TheVariants as status
@@ -78,6 +78,8 @@ pub record IsDebloated (level : Level) (limit : ℕ) (s : Sources) (w : List ℕ
   pub keeps : Keeps decode_profile s.exe w kept
   -- each step of the file's run is followed within its bound
   pub paced : IsPaced decode_profile s.exe w kept
+  -- and has its moment there
+  pub costs : HasCosts decode_profile s.exe w kept
   -- the traced runs take no such edge before they ended or their limit came
   pub uncut : AllByRecursion (λ input. IsUncut decode_profile kept.edges (traced s.exe input) limit) s.inputs
   pub inert : Inert decode_profile s.exe w kept

@@ -4,7 +4,7 @@ use Rattle.rz_sys.specs.Input.{empty_input}
 use Rattle.rz_elf.specs.Loaded.{elf_of}
 use Rattle.rz_gen.specs.declared.file.TheConstants.{GEN_STEPS_LIMIT}
 use Rattle.rz_gen.specs.Generated.{generated}
-use Rattle.rz_replay.specs.Counted.{steps_made}
+use Rattle.rz_machine.specs.Until.{steps_made}
 use Rattle.rz_replay.specs.RunText.{last_line}
 use Rattle.rz_paths.specs.declared.level.Level.TheVariants as level
 use Rattle.rz_core.specs.Decoding.{decode_profile}

@@ -10,7 +10,7 @@ use Rattle.rz_machine.specs.Kept.{Kept}
 use Rattle.rz_machine.specs.Keeps.{Keeps}
 use Rattle.rz_machine.specs.Recorded.{IsUncut}
 use Rattle.rz_machine.specs.WrittenFile.{Inert}
-use Rattle.rz_rewrite.specs.Rewritten.{IsPaced}
+use Rattle.rz_rewrite.specs.Rewritten.{HasCosts, IsPaced}
 use Rattle.rz_core.specs.declared.status.Status.{Status}
 use Rattle.rz_core.specs.declared.status.Status.TheVariants as status
 use Rattle.rz_core.specs.declared.plan.Demand.{Demand}
@@ -71,8 +71,10 @@ pub record HoldsHeadline (p : Planned) (old new : Files) : Type 0 where
   pub out : HoldEach new p.writes (w ∷ [])
   -- w follows each run of x, up to the first edge that isn't kept, and stops there at its stub
   pub keeps : Keeps decode_profile x w kept
-  -- each of its steps takes 1 to 64 steps of w, and at a site up to four more for each target
+  -- each of its steps takes 1 to 64 steps of w, and at a site up to 16 more for each binary digit of its number of targets
   pub paced : IsPaced decode_profile x w kept
+  -- each step up to the first end or cut that touches nothing that is added has its moment in the run of w
+  pub costs : HasCosts decode_profile x w kept
   -- w is the written file of x, accepted, and loads what it should and no more
   pub inert : Inert decode_profile x w kept
   -- the traced runs themselves take no such edge before they ended or their limit came

@@ -4,7 +4,7 @@ use Rattle.rz_num.specs.Texts.{hex_text}
 use Rattle.rz_core.specs.declared.status.Status.{Status}
 use Rattle.rz_core.specs.declared.status.Status.TheVariants as status
 use Rattle.rz_core.specs.declared.status.Target.TheVariants as target
-use Rattle.rz_core.specs.Texts.{fault_text, room_text}
+use Rattle.rz_elf.specs.Texts.{fault_text, room_text}
 
 pub data Kind : Type 0 where
   -- the command is done, and put its own text

@@ -7,7 +7,7 @@ ghost use Rattle.rz_sys.specs.Input.{empty_input};
 ghost use Rattle.rz_gen.specs.declared.file.TheConstants.{GEN_STEPS_LIMIT as LIMIT};
 ghost use Rattle.rz_gen.specs.Generated.{generated};
 ghost use Rattle.rz_paths.specs.declared.level.Level.TheVariants as level;
-ghost use Rattle.rz_replay.specs.Counted.{steps_made};
+ghost use Rattle.rz_machine.specs.Until.{steps_made};
 ghost use Rattle.rz_replay.specs.RunText.{last_line as line_of_end};
 ghost use Rattle.rz_core.specs.Decoding.{decode_profile};
 ghost use Rattle.rz_core.specs.Reading.{Read};
@@ -34,7 +34,6 @@ use rz_machine::start::start;
 use rz_num::{Bytes, OutOfMemory};
 use rz_paths::Level;
 use rz_replay::compare::compare;
-use rz_replay::count::run_counting;
 use rz_replay::run_text::last_line;
 use rz_sys::input::Input;
 use std::alloc::Global;
@@ -195,6 +194,6 @@ fn run_on_nothing(alloc: Global, elf: &Elf) -> Result<Ran, OutOfMemory>
 {
     let input = Input::empty(alloc);
     let mut machine = start(alloc, elf, &input)?;
-    let steps = run_counting::<Decoding>(alloc, &mut machine, GEN_STEPS_LIMIT)?;
+    let steps = machine.run_counting::<Decoding>(alloc, GEN_STEPS_LIMIT)?;
     Ok(Ran { steps, machine })
 }

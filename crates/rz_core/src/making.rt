@@ -7,7 +7,7 @@ ghost use Rattle.rz_machine.specs.Keeps.{Keeps};
 ghost use Rattle.rz_paths.specs.Levels.{IsWithin, Keeps as KeepsAt};
 ghost use Rattle.rz_machine.specs.LeftCode.{StaysInCode};
 ghost use Rattle.rz_machine.specs.Nodes.{code_in, StandsIn};
-ghost use Rattle.rz_rewrite.specs.Rewritten.{CanRewrite, IsPaced};
+ghost use Rattle.rz_rewrite.specs.Rewritten.{CanRewrite, HasCosts, IsPaced};
 ghost use Rattle.rz_machine.specs.Traced.{kept_in, with_run};
 ghost use Rattle.rz_sys.specs.Input.{IsValid};
 ghost use Rattle.rz_machine.specs.WrittenFile.{Inert};
@@ -188,6 +188,7 @@ fn write_new(alloc: Global, elf: &Elf, kept: &Record) -> Result<Made, Refusal>
     requires plausible { CanRewrite decode_profile (image_of elf.now.bytes) (kept_in kept.now) }
     ensures keeps { IfOk result (λ m. Keeps decode_profile elf.now.bytes m.bytes (kept_in kept.now)) }
     ensures paced { IfOk result (λ m. IsPaced decode_profile elf.now.bytes m.bytes (kept_in kept.now)) }
+    ensures costs { IfOk result (λ m. HasCosts decode_profile elf.now.bytes m.bytes (kept_in kept.now)) }
     ensures inert { IfOk result (λ m. Inert decode_profile elf.now.bytes m.bytes (kept_in kept.now)) }
     ensures report { IfOk result (λ m. m.report
         ≡ debloat_report_of decode_profile (image_of elf.now.bytes) (kept_in kept.now)) }

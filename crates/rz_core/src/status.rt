@@ -7,14 +7,11 @@ ghost use Rattle.rz_core.specs.Calls.Said.{text_said};
 use rz_elf::fault::ElfFault;
 use rz_elf::room::Room;
 use rz_num::Text;
-use thiserror::Error;
 
 /// What could not be written.
-#[derive(Clone, Copy, PartialEq, Eq, Debug, Error)]
+#[derive(Clone, Copy, PartialEq, Eq, Debug)]
 pub enum Target {
-    #[error("file")]
     File,
-    #[error("text")]
     Text,
 }
 

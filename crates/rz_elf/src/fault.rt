@@ -1,62 +1,112 @@
 //! Why files are refused.
 
+ghost use Rattle.std.specs.Prelude.{◌≡◌, Some};
+
 use rz_num::OutOfMemory;
+use std::{error, fmt};
 use thiserror::Error;
 
 /// Why a file isn't accepted. A number is that of a program header, from 0.
-#[derive(Clone, Copy, PartialEq, Eq, Debug, Error)]
+#[derive(Clone, Copy, PartialEq, Eq, Debug)]
 pub enum ElfFault {
-    #[error("Long")]
     Long,
-    #[error("Short")]
     Short,
-    #[error("Magic")]
     Magic,
-    #[error("Class")]
     Class,
-    #[error("Data")]
     Data,
-    #[error("Version")]
     Version,
-    #[error("Type")]
     FileType,
-    #[error("Machine")]
     Machine,
-    #[error("HeaderSize")]
     HeaderSize,
-    #[error("EntrySize")]
     EntrySize,
-    #[error("Count")]
     Count,
-    #[error("TableRange")]
     TableRange,
-    #[error("Dynamic {0}")]
     Dynamic(u32),
-    #[error("StackCode {0}")]
     StackCode(u32),
-    #[error("Flags {0}")]
     Flags(u32),
-    #[error("WritableCode {0}")]
     WritableCode(u32),
-    #[error("SizeOrder {0}")]
     SizeOrder(u32),
-    #[error("FileRange {0}")]
     FileRange(u32),
-    #[error("Align {0}")]
     Align(u32),
-    #[error("Address {0}")]
     Address(u32),
-    #[error("Order {0}")]
     Order(u32),
-    #[error("SharedPage {0}")]
     SharedPage(u32),
-    #[error("TotalSize")]
     TotalSize,
-    #[error("NoLoad")]
     NoLoad,
-    #[error("Entry")]
     Entry,
 }
+
+impl ElfFault {
+    ghost use Rattle.rz_elf.specs.Texts.{fault_name, fault_header};
+
+    /// Its name.
+    pub fn name(&self) -> &'static str
+        ensures { result.now ≡ fault_name self.now }
+    {
+        match *self {
+            ElfFault::Long => "Long",
+            ElfFault::Short => "Short",
+            ElfFault::Magic => "Magic",
+            ElfFault::Class => "Class",
+            ElfFault::Data => "Data",
+            ElfFault::Version => "Version",
+            ElfFault::FileType => "Type",
+            ElfFault::Machine => "Machine",
+            ElfFault::HeaderSize => "HeaderSize",
+            ElfFault::EntrySize => "EntrySize",
+            ElfFault::Count => "Count",
+            ElfFault::TableRange => "TableRange",
+            ElfFault::Dynamic(_) => "Dynamic",
+            ElfFault::StackCode(_) => "StackCode",
+            ElfFault::Flags(_) => "Flags",
+            ElfFault::WritableCode(_) => "WritableCode",
+            ElfFault::SizeOrder(_) => "SizeOrder",
+            ElfFault::FileRange(_) => "FileRange",
+            ElfFault::Align(_) => "Align",
+            ElfFault::Address(_) => "Address",
+            ElfFault::Order(_) => "Order",
+            ElfFault::SharedPage(_) => "SharedPage",
+            ElfFault::TotalSize => "TotalSize",
+            ElfFault::NoLoad => "NoLoad",
+            ElfFault::Entry => "Entry",
+        }
+    }
+
+    /// The number of the program header that has it, where it is a fault of one.
+    pub fn header(&self) -> Option<u32>
+        ensures { result ≡ fault_header self.now }
+    {
+        match *self {
+            ElfFault::Dynamic(i)
+            | ElfFault::StackCode(i)
+            | ElfFault::Flags(i)
+            | ElfFault::WritableCode(i)
+            | ElfFault::SizeOrder(i)
+            | ElfFault::FileRange(i)
+            | ElfFault::Align(i)
+            | ElfFault::Address(i)
+            | ElfFault::Order(i)
+            | ElfFault::SharedPage(i) => Some(i),
+            _ => None,
+        }
+    }
+}
+
+impl fmt::Display for ElfFault {
+    ghost use Rattle.rz_elf.specs.Texts.{fault_text};
+
+    ghost output = { λ fault. Some (fault_text fault) };
+
+    fn fmt<W: fmt::Write>(&self, f: &mut fmt::Formatter<W>) -> fmt::Result {
+        let name = self.name();
+        match self.header() {
+            None => write!(f, "{name}"),
+            Some(i) => write!(f, "{name} {i}"),
+        }
+    }
+}
+
+impl error::Error for ElfFault {}
 
 /// Why a file isn't read.
 #[derive(Clone, Copy, PartialEq, Eq, Debug, Error)]

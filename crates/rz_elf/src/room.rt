@@ -1,10 +1,10 @@
 //! Whether there is room in a file for added parts.
 
-ghost use Rattle.std.specs.Prelude.{◌≡◌};
+ghost use Rattle.std.specs.Prelude.{◌≡◌, Some};
 ghost use Rattle.rz_num.specs.Page.{page_up};
 
 use crate::format::ADDED_LOADS;
-use thiserror::Error;
+use std::{error, fmt};
 
 // The lowest address of loads; the most program headers, bytes of a file, and bytes of all loads in memory.
 const LOWEST: u128 = 0x1_0000;
@@ -20,17 +20,30 @@ const PAGE: u128 = 4096;
 
 /// Why there is no room, in the order in which it is tried: no addresses below the lowest load, too many program
 /// headers, too many bytes in the file, or in all loads in memory.
-#[derive(Clone, Copy, PartialEq, Eq, Debug, Error)]
+#[derive(Clone, Copy, PartialEq, Eq, Debug)]
 pub enum Room {
-    #[error("Low")]
     Low,
-    #[error("Headers")]
     Headers,
-    #[error("Length")]
     Length,
-    #[error("Total")]
     Total,
 }
+
+impl fmt::Display for Room {
+    ghost use Rattle.rz_elf.specs.Texts.{room_text};
+
+    ghost output = { λ room. Some (room_text room) };
+
+    fn fmt<W: fmt::Write>(&self, f: &mut fmt::Formatter<W>) -> fmt::Result {
+        match *self {
+            Room::Low => write!(f, "Low"),
+            Room::Headers => write!(f, "Headers"),
+            Room::Length => write!(f, "Length"),
+            Room::Total => write!(f, "Total"),
+        }
+    }
+}
+
+impl error::Error for Room {}
 
 /// What a file takes: the address of the page where its lowest load begins, the number of its program headers that a
 /// new file keeps, its bytes, and those of its loads in memory.

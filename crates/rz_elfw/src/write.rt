@@ -1,6 +1,6 @@
 //! The written file.
 
-ghost use Rattle.std.specs.Prelude.{◌≡◌, IfOk, Some, None};
+ghost use Rattle.std.specs.Prelude.{◌≡◌, ◌++◌, IfOk, OnOk, Some, None};
 ghost use Rattle.rz_elf.specs.Elf.{fault_of, image_of};
 ghost use Rattle.rz_elf.specs.Format.{stamp_number};
 ghost use Rattle.rz_elf.specs.Loaded.{elf_of};
@@ -31,16 +31,25 @@ pub fn write_elf(alloc: Global, elf: &Elf, parts: &Parts, entry: u64) -> Result<
     let file = elf.bytes.as_slice();
     let segments = new_segments(alloc, elf, parts)?;
     let filler = page_up(file.len() as u64) as usize - file.len();
-    let tables = parts.tables.as_slice();
-    let code = parts.code.as_slice();
-    let stubs = parts.stubs.as_slice();
-    let size = PAGE + file.len() + filler + tables.len() + code.len() + stubs.len();
+    let tables = parts.tables.as_slice().len();
+    let code = parts.code.as_slice().len();
+    let stubs = parts.stubs.as_slice().len();
+    let size = PAGE + file.len() + filler + tables + code + stubs;
     let mut out = Vec::with_capacity(alloc, size)?;
     push_header_page(&mut out, segments.as_slice(), entry)?;
     out.extend_from_slice(file)?;
     push_zeros(&mut out, filler)?;
-    out.extend_from_slice(tables)?;
-    out.extend_from_slice(code)?;
-    out.extend_from_slice(stubs)?;
+    push_parts(&mut out, parts)?;
     Ok(Bytes::from_vec(out))
+}
+
+// Appends the bytes of the tables, the code and the stubs.
+fn push_parts(out: &mut Vec<u8>, parts: &Parts) -> Result<(), OutOfMemory>
+    ensures { OnOk result
+        (out.new.items ≡ out.old.items ++ (parts.now.tables ++ (parts.now.code ++ parts.now.stubs))) }
+{
+    out.extend_from_slice(parts.tables.as_slice())?;
+    out.extend_from_slice(parts.code.as_slice())?;
+    out.extend_from_slice(parts.stubs.as_slice())?;
+    Ok(())
 }

@@ -61,7 +61,8 @@ fn goes_on(rep: Rep, flags: Flags) -> bool
 }
 
 pub(crate) fn rep_cmps(w: Width, rep: Rep, cpu: &mut Cpu, mem: &Memory) -> Result<(), Fault>
-    ensures done { ended cpu.new mem.now result ≡ repeated_by (while_zero rep (cmps_effect w true)) cpu.old mem.now }
+    ensures done { let repeated = repeated_by (while_zero rep (cmps_effect w true)) in
+        ended cpu.new mem.now result ≡ repeated cpu.old mem.now }
     ensures rip { cpu.new.rip ≡ cpu.old.rip }
 {
     while cpu.regs[1] > 0 {
@@ -76,7 +77,8 @@ pub(crate) fn rep_cmps(w: Width, rep: Rep, cpu: &mut Cpu, mem: &Memory) -> Resul
 }
 
 pub(crate) fn rep_scas(w: Width, rep: Rep, cpu: &mut Cpu, mem: &Memory) -> Result<(), Fault>
-    ensures done { ended cpu.new mem.now result ≡ repeated_by (while_zero rep (scas_effect w true)) cpu.old mem.now }
+    ensures done { let repeated = repeated_by (while_zero rep (scas_effect w true)) in
+        ended cpu.new mem.now result ≡ repeated cpu.old mem.now }
     ensures rip { cpu.new.rip ≡ cpu.old.rip }
 {
     while cpu.regs[1] > 0 {

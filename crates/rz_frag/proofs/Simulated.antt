@@ -16,7 +16,8 @@ use Rattle.rz_machine.specs.declared.way.Transfer.TheVariants as transfer
 use Rattle.rz_machine.specs.declared.way.Way.{Way}
 use Rattle.rz_machine.specs.declared.way.Way.TheVariants.{Onward, Jumps, Branches, BranchesOnRcx, Transfers, Calls, Halts}
 use Rattle.rz_machine.specs.Way.{way_of}
-use Rattle.rz_machine.specs.Added.{Layout}
+use Rattle.rz_machine.specs.Added.{Layout, Places}
+use Rattle.rz_machine.specs.Kept.{has_node}
 use Rattle.rz_machine.specs.State.{step}
 use Rattle.rz_machine.specs.Touches.{StepClear, WayClear}
 use Rattle.rz_machine.specs.Simulates.{InsnAt, ItemAt, ItemsFrom, Stand, Follows, Simulates, label_at, leads}
@@ -25,9 +26,12 @@ use Rattle.rz_machine.specs.Sequence.{to_label, jump_to, mov_number, push_number
 use Rattle.rz_frag.specs.Fragment.{FragmentsSimulate}
 use Rattle.rz_frag.proofs.Follows.{Onto, Falls, ByJump, plain_follows, jump_follows, branch_follows, count_follows, halt_follows, syscall_follows, push_follows, insn_clear}
 
-module _ (dec : Decoder) (keeps : ℕ → Bool) (lay : Layout) (place own : ℕ → ℕ) (wm : Regions) (a : ℕ) where
+module _ (dec : Decoder) (keeps : ℕ → Bool) (lay : Layout) (places : Places) (own : ℕ → ℕ) (wm : Regions) (a : ℕ) where
+  abbrev place : ℕ → ℕ
+  place = places.fragment
+
   abbrev at : Addresses
-  at = label_at lay place own
+  at = label_at lay places own
 
   abbrev to : ℕ → ℕ
   to = leads keeps place lay.stub a
@@ -111,5 +115,5 @@ module _ (dec : Decoder) (keeps : ℕ → Bool) (lay : Layout) (place own : ℕ 
 -- the law
 pub fragments_simulate : (dec : Decoder) → FragmentsSimulate dec 64
 unfolding Simulates
-fragments_simulate dec scratch keeps a n x site low lay place own xm wm old items inside page s t rip st clear =
-    by_way dec keeps lay place own wm a xm n x low old inside s t rip st clear (way_of x) refl (sym (ap is_site (kind_by_way x)) ∙ site) items
+fragments_simulate dec scratch targets a n x site low lay places own xm wm old items inside page has s t rip st clear =
+    by_way dec (has_node targets) lay places own wm a xm n x low old inside s t rip st clear (way_of x) refl (sym (ap is_site (kind_by_way x)) ∙ site) items

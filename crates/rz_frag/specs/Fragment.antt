@@ -7,14 +7,15 @@ use Rattle.rz_isa.specs.Nodes.{Decoder, is_site}
 use Rattle.rz_isa.specs.Sizes.{IsSized}
 use Rattle.rz_isa.specs.Spells.{Spells}
 use Rattle.rz_isa.specs.Targets.{NamesLow}
+use Rattle.rz_machine.specs.Kept.{has_node}
 use Rattle.rz_machine.specs.Sequence.{fragment_items}
 use Rattle.rz_machine.specs.Simulates.{Simulates}
 
 -- they simulate the instruction, in at most so many steps, whatever is kept of its successors
 abbrev pub FragmentsSimulate : Decoder → ℕ → Type 0
 FragmentsSimulate dec bound =
-    (scratch : ℕ) (keeps : ℕ → Bool) (a n : ℕ) (x : Insn) → is_site (kind_of x) ≡ false → n < 2 ^ 31
-    → Simulates dec scratch bound keeps a n x (fragment_items keeps a n x)
+    (scratch : ℕ) (targets : List ℕ) (a n : ℕ) (x : Insn) → is_site (kind_of x) ≡ false → n < 2 ^ 31
+    → Simulates dec scratch bound targets a n x (fragment_items (has_node targets) a n x)
 
 -- they take at most so many bytes, for an instruction that some bytes spell and that names low addresses
 abbrev pub FragmentsAreSized : List Row → ℕ → Type 0

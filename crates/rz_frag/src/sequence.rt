@@ -7,7 +7,7 @@ ghost use Rattle.rz_isa.specs.Nodes.{is_site};
 ghost use Rattle.rz_isa.specs.Sizes.{IsSized};
 ghost use Rattle.rz_isa.specs.Spells.{Spells};
 ghost use Rattle.rz_isa.specs.Targets.{NamesLow};
-ghost use Rattle.rz_machine.specs.Kept.{has_edge};
+ghost use Rattle.rz_machine.specs.Kept.{has_edge, targets_of};
 ghost use Rattle.rz_machine.specs.Simulates.{Simulates};
 ghost use Rattle.rz_machine.specs.Sequence.{fragment_items, jump_to as jump_to_of, mov_number as mov_number_of, push_number as push_number_of, to_label};
 
@@ -38,7 +38,7 @@ pub fn fragment<T: InsnTable>(
     ensures items { IfOk result (λ f.
         f.items ≡ fragment_items (has_edge kept.now.edges at) at (at + len) insn.now) }
     ensures simulates { IfOk result (λ f. (scratch : ℕ)
-        → Simulates (decoded T.rows) scratch 64 (has_edge kept.now.edges at) at (at + len) insn.now f.items) }
+        → Simulates (decoded T.rows) scratch 64 (targets_of kept.now.edges at) at (at + len) insn.now f.items) }
     ensures sized { IfOk result (λ f. (bytes : List ℕ) (b : ℕ) → Spells T.rows bytes b insn.now
         → NamesLow insn.now → IsSized T.rows f.items 32) }
 {

@@ -10,6 +10,7 @@ pub mod Parts
 pub mod Prefixed
 pub mod Read
 pub mod Served
+pub mod Shortest
 pub mod Tests
 pub mod Whole
 pub mod Built

@@ -81,12 +81,13 @@ is_word_imm None = true
 is_word_imm (Some imms.Iw) = true
 is_word_imm _ = false
 
--- counts and bit indexes have one byte, what Ret pops has two
+-- counts and bit indexes have one byte, what Ret pops has two, a Nop none
 abbrev pub imm_suits : Op → Option ImmKind → Bool
 imm_suits (ops.Shift o d c) k = is_byte_imm k
 imm_suits (ops.DoubleShift o d s c) k = is_byte_imm k
 imm_suits (ops.BitTest o d i) k = is_byte_imm k
 imm_suits ops.Ret k = is_word_imm k
+imm_suits ops.Nop k = is_none k
 imm_suits _ k = true
 
 abbrev pub is_single : Size → Bool

@@ -113,3 +113,8 @@ pub record PlainPrefixes (x : Insn) (s : List ℕ) : Type 0 where
 -- so in a canonical spelling
 abbrev pub CanonicalPrefixes : List Row → Type 0
 CanonicalPrefixes rows = (x : Insn) (at : ℕ) (form : Form) (s : List ℕ) → canonical rows x at form ≡ Some s → PlainPrefixes x s
+
+-- no spelling of the instruction at that address by its canonical row is shorter
+abbrev pub CanonicalShortest : List Row → Type 0
+CanonicalShortest rows = (x : Insn) (at : ℕ) (form : Form) (s t : List ℕ) (n : ℕ) (row : Row) → canonical rows x at form ≡ Some s
+    → IsCanonicalRow rows form x n → slice_get rows n ≡ Some row → RowSpells row t at x → length s ≤ length t

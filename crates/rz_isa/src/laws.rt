@@ -1,6 +1,6 @@
 ghost use Rattle.std.specs.Prelude.{IsTrue};
 ghost use Rattle.rz_isa.specs.Emitted.{Emits, EmitsLookup, has_lookup};
-ghost use Rattle.rz_isa.specs.Table.{OneRow, Lengths, OneCanonicalRow, HasChosen, CanonicalSpells, CanonicalPrefixes};
+ghost use Rattle.rz_isa.specs.Table.{OneRow, Lengths, OneCanonicalRow, HasChosen, CanonicalSpells, CanonicalPrefixes, CanonicalShortest};
 ghost use Rattle.rz_isa.specs.Targets.{RipTargets, DirectTargets, IndirectOperands, SpelledElsewhere};
 ghost use Rattle.rz_isa.specs.Within.{SpelledWithin};
 
@@ -36,6 +36,12 @@ pub fn canonical_spells<T: InsnTable>()
 /// not equal (Intel SDM, volume 2, section 2.1.1).
 pub fn canonical_prefixes<T: InsnTable>()
     ensures { CanonicalPrefixes T.rows }
+{}
+
+/// No spelling of the instruction at that address by its canonical row is shorter than the canonical one (Intel SDM,
+/// volume 2, section 2.1).
+pub fn canonical_shortest<T: InsnTable>()
+    ensures { CanonicalShortest T.rows }
 {}
 
 /// What an instruction names relative to RIP is its ModRM operand's address, exactly where its

@@ -19,9 +19,9 @@ use Rattle.rz_isa.specs.declared.item_list.Slot.{Slot}
 use Rattle.rz_isa.specs.declared.fragment_list.Fragment.{Fragment}
 use Rattle.rz_isa.specs.declared.fragment_list.Fragments.{Fragments}
 use Rattle.rz_isa.specs.Emitted.{HasSpelling}
-use Rattle.rz_isa.specs.Items.{Addresses, list_slots, slots_from, slots, item_count, fragment_number, label_address, resolved, store}
+use Rattle.rz_isa.specs.Items.{Addresses, list_slots, slots_from, slots, item_count, first_number, fragment_number, label_address, resolved, store}
 use Rattle.rz_isa.specs.Plan.{form_at, item_len, len_or_none, offset, place, code_end, Reaches, InReach, IsPlaced, IsPlacedAt}
-use Rattle.rz_isa.specs.Sizes.{CanMove, near_len, near_address, AllPlaced, OfLabel, IsLow, IsOneOf}
+use Rattle.rz_isa.specs.Sizes.{IsSized, CanMove, near_len, near_address, AllPlaced, OfLabel, IsLow, IsOneOf}
 use Rattle.rz_layout.specs.Layout.{all_near}
 use Rattle.rz_layout.specs.NearPlan.{IsKnown, IsSizedFragment, most_total, CanStand, StandsNear}
 use Rattle.rz_layout.proofs.Flat.{near_all}
@@ -196,8 +196,8 @@ module _ (rows : List Row) (frags : Fragments) (base : ℕ) where
       known_low (label.Place a) h = map_some P (λ p. p < 2 ^ 31) (λ m. omega (arith, ends m, low)) (fragment_number 0 frags.list a) h
       known_low (label.Stub a) h = h
       known_low (label.Item k) h = tt
-      known_low (label.Table a) h = absurd h
-      known_low label.Routine h = absurd h
+      known_low (label.Table a) h = h
+      known_low label.Routine h = map_some P (λ p. p < 2 ^ 31) (λ m. omega (arith, ends m, low)) (first_number (item_count frags.list) frags.routine) h
 
       label_same : (to : Label) → IsOneOf (length whole) to → near_address rows whole (P n) at to ≡ at to
       label_same (label.Place a) h = refl
@@ -277,21 +277,73 @@ module _ (rows : List Row) (frags : Fragments) (base : ℕ) where
             subst (λ k. Good k s) m (good most low (first + length f.items) list all.1 (rest_there first f list there) (omega (arith, room, long, more, all.0.sized.few)) j s later)
       ]
 
-pub stands_near : (rows : List Row) (frags : Fragments) (base : ℕ) (most : ℕ → ℕ) → CanStand rows frags base most → StandsNear rows frags base most
-stands_near rows frags base most can =
-    let list = frags.list in
-    let same : slots frags ≡ slots_from 0 list = ap (λ r. slots_from 0 list ++ list_slots (item_count list) r) can.no_routine ∙ append-nil (slots_from 0 list) in
-    let there : AreSlots rows frags base 0 list = λ i s e. let n : i ≡ 0 + i = omega arith in subst (λ k. slice_get (slots frags) k ≡ Some s) n (ap (λ l. slice_get l i) same ∙ e) in
-    let count : length (slots frags) ≡ 0 + item_count list = omega (arith, ap length same, length-slots_from 0 list) in
-    let begin = start rows frags base in
-    let most_end = total rows frags base most 0 list can.fragments there in
-    let last : code_end rows frags base (all_near frags) ≤ base + most_total most list = omega (arith, most_end, begin, ap (place rows frags base (all_near frags)) count) in
-    let each : (k : ℕ) (s : Slot) → slice_get (slots frags) k ≡ Some s → Good rows frags base k s = λ k s e.
-    let n : 0 + k ≡ k = omega arith in
-    subst (λ k. Good rows frags base k s) n
-    (good rows frags base most (omega (arith, last, can.low)) 0 list can.fragments there (omega (arith, begin, can.low)) k s (ap (λ l. slice_get l k) (sym same) ∙ e)) in
+pub stands_near : (rows : List Row) (frags : Fragments) (base : ℕ) (most : ℕ → ℕ) (routine : ℕ) → CanStand rows frags base most routine → StandsNear rows frags base most routine
+stands_near rows frags base most routine can =
     record {
       items = λ k d h. (each k (get_or (slots frags) k d) (slice_get-get_or (slots frags) k d h)).0;
       plan = record { each = length-replicate (length (slots frags)) Near; placed = λ k s e. (each k s e).1 };
       ends = last;
     }
+  where
+    -- the routine as a fragment
+    own_sized : IsSizedFragment rows frags (λ a. routine) (record { at = 0; items = frags.routine })
+    own_sized =
+        let e = append-nil frags.routine in
+        record {
+          rest = [];
+          few = omega arith;
+          sized = subst (λ l. IsSized rows l routine) (sym e) can.routine_sized;
+          known = subst (AllByRecursion (OfLabel (IsKnown frags))) (sym e) can.routine_known;
+        }
+
+    long : length (slots_from 0 frags.list) ≡ item_count frags.list
+    long = length-slots_from 0 frags.list
+
+    there : AreSlots rows frags base 0 frags.list
+    there i s e = let n : i ≡ 0 + i = omega arith in subst (λ k. slice_get (slots frags) k ≡ Some s) n (get_front (slots_from 0 frags.list) (list_slots (item_count frags.list) frags.routine) i s e)
+
+    behind : AreFrom rows frags base (item_count frags.list) (item_count frags.list + length frags.routine) frags.routine
+    behind i t e =
+        let n : length (slots_from 0 frags.list) + i ≡ item_count frags.list + i = omega (arith, long) in
+        subst (λ k. slice_get (slots frags) k ≡ Some (as_slot (item_count frags.list) (item_count frags.list + length frags.routine) t)) n
+        (get_back (slots_from 0 frags.list) (list_slots (item_count frags.list) frags.routine) i ∙ get_slot (item_count frags.list) (item_count frags.list + length frags.routine) frags.routine i t e)
+
+    all : length (slots frags) ≡ item_count frags.list + length frags.routine
+    all = omega (arith, length-append (slots_from 0 frags.list) (list_slots (item_count frags.list) frags.routine), long, length-list_slots (item_count frags.list) frags.routine)
+
+    -- where the routine begins, and where it ends
+    begin : place rows frags base (all_near frags) (item_count frags.list) ≤ base + most_total most frags.list
+    begin = let e : 0 + item_count frags.list ≡ item_count frags.list = omega arith in omega (arith, total rows frags base most 0 frags.list can.fragments there, start rows frags base, ap (place rows frags base (all_near frags)) e)
+
+    last : code_end rows frags base (all_near frags) ≤ base + most_total most frags.list + routine
+    last =
+        let r = run rows frags base (item_count frags.list) (item_count frags.list + length frags.routine) (item_count frags.list) frags.routine behind in
+        omega (arith, r, begin, can.routine_sized.few, ap (place rows frags base (all_near frags)) all)
+
+    low : code_end rows frags base (all_near frags) < 2 ^ 31
+    low = omega (arith, last, can.low)
+
+    each : (k : ℕ) (s : Slot) → slice_get (slots frags) k ≡ Some s → Good rows frags base k s
+    each k s e =
+        elim (cases_lt k (item_count frags.list)) [
+          | inl h ↦
+              let t = get_or (slots_from 0 frags.list) k s in
+              let is = slice_get-get_or (slots_from 0 frags.list) k s (omega (arith, h, long)) in
+              let same : t ≡ s = some_is_some _ _ (sym (get_front (slots_from 0 frags.list) (list_slots (item_count frags.list) frags.routine) k t is) ∙ e) in
+              let n : 0 + k ≡ k = omega arith in
+              subst (λ k. Good rows frags base k s) n
+              (good rows frags base most low 0 frags.list can.fragments there (omega (arith, start rows frags base, can.low)) k s (is ∙ ap Some same))
+          | inr h ↦
+              let i = k - item_count frags.list in
+              let n : length (slots_from 0 frags.list) + i ≡ k = omega (arith, long, h) in
+              let m : item_count frags.list + i ≡ k = omega (arith, h) in
+              let got = slot_get (item_count frags.list) (item_count frags.list + length frags.routine) frags.routine i s
+              (sym (get_back (slots_from 0 frags.list) (list_slots (item_count frags.list) frags.routine) i) ∙ (ap (slice_get (slots frags)) n ∙ e)) in
+              let fits : place rows frags base (all_near frags) (item_count frags.list) + routine < 2 ^ 31 = omega (arith, begin, can.low) in
+              let f : Fragment = record { at = 0; items = frags.routine } in
+              subst (λ k. Good rows frags base k s) m
+              (subst (Good rows frags base (item_count frags.list + i)) (sym got.2) (
+                item_moves rows frags base (λ a. routine) low f own_sized (item_count frags.list) behind fits got.0 i got.1,
+                item_placed rows frags base (λ a. routine) low f own_sized (item_count frags.list) behind fits got.0 i got.1,
+              ))
+        ]

@@ -39,5 +39,5 @@ OrderNumbers =
 -- sized fragments can be laid out with each item near
 abbrev pub SizedStandNear : Type 0
 SizedStandNear =
-    (rows : List Row) (frags : Fragments) (base : ℕ) (most : ℕ → ℕ)
-    → CanStand rows frags base most → StandsNear rows frags base most
+    (rows : List Row) (frags : Fragments) (base : ℕ) (most : ℕ → ℕ) (routine : ℕ)
+    → CanStand rows frags base most routine → StandsNear rows frags base most routine

@@ -6,8 +6,8 @@ use Rattle.rz_num.specs.declared.width.Width.{Width}
 use Rattle.rz_image.specs.Memory.{Cell, Regions, cell_at, bytes_at, refused, is_readable, wrap}
 use Rattle.rz_image.specs.Word.{byte_count}
 use Rattle.rz_exec.specs.Form.{allowed, read_word}
-use Rattle.rz_lookup.specs.Tables.{pairs_bytes}
-use Rattle.rz_lookup.specs.Routine.{HasBytes}
+use Rattle.rz_machine.specs.Tables.{pairs_bytes}
+use Rattle.rz_machine.specs.Lookup.{HasBytes}
 
 -- ---- parts of bytes that stand
 

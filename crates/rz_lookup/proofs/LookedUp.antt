@@ -33,8 +33,9 @@ use Rattle.rz_machine.specs.Simulates.{InsnAt, ItemsFrom, HasCode, HasScratch}
 use Rattle.rz_machine.specs.Laws.Code.{step_code, after_range}
 use Rattle.rz_machine.specs.Laws.Comes.{step_is, branch_is, jump_is}
 use Rattle.rz_machine.specs.Laws.Steps.{step_heap}
-use Rattle.rz_lookup.specs.Tables.{IsTable, table_of, pairs_bytes, led}
-use Rattle.rz_lookup.specs.Routine.{HasWord, HasBytes, LooksUp, LookedUp, NamesItems, RoutineLooksUp, branch, jump_to, lookup_items, lookup_steps, working, based, paired, store, load, load_number, halve, compare, compare_low, advance}
+use Rattle.rz_machine.specs.Tables.{IsTable, table_of, pairs_bytes, led}
+use Rattle.rz_machine.specs.Lookup.{HasWord, HasBytes, LooksUp, LookedUp, lookup_steps, working}
+use Rattle.rz_lookup.specs.Routine.{NamesItems, RoutineLooksUp, branch, jump_to, lookup_items, based, paired, store, load, load_number, halve, compare, compare_low, advance}
 use Rattle.rz_lookup.proofs.Bytes.{bytes_behind, bytes_before, bytes_in, read_number, pairs_len, pairs_behind}
 use Rattle.rz_lookup.proofs.LookupRun.{based_is, paired_is, equal_is, unequal_is, below_is, Leads, there, first, in_more}
 use Rattle.rz_lookup.proofs.LookupSteps.{store_is, load_is, number_is, advance_is, halved, halve_is, difference, compare_is, compare_number_is, compare_low_is, push_flags_is, pop_flags_is}
@@ -749,5 +750,6 @@ module _ (dec : Decoder) (lay : Layout) (at : Addresses) (own : ℕ → ℕ) (wm
 
 -- the law
 pub routine_looks_up : (dec : Decoder) → RoutineLooksUp dec
-routine_looks_up dec scratch lay at own wm table rcx stub d pairs t names items page is few looks =
-    looked_up_by dec lay at own wm scratch table rcx stub pairs t names items page is looks d few t.cpu.regs refl looks.regs.sixteen
+routine_looks_up dec scratch lay at own wm p names items page table rcx stub d pairs t there is few looks =
+    let begun = subst (λ q. ItemsFrom dec wm at own 0 q (lookup_items scratch)) (sym there) items in
+    looked_up_by dec lay at own wm scratch table rcx stub pairs t names begun page is looks d few t.cpu.regs refl looks.regs.sixteen

@@ -4,8 +4,8 @@ use Rattle.std.specs.List.{AllByRecursion}
 use Rattle.byteorder.specs.Endian.{little_bytes}
 use Rattle.rz_isa.specs.Items.{beside}
 use Rattle.rz_image.specs.Memory.{Regions}
-use Rattle.rz_lookup.specs.Tables.{AscendFrom, pairs_bytes}
-use Rattle.rz_lookup.specs.Routine.{HasBytes}
+use Rattle.rz_machine.specs.Tables.{AscendFrom, pairs_bytes}
+use Rattle.rz_machine.specs.Lookup.{HasBytes}
 use Rattle.rz_lookup.proofs.Bytes.{bytes_before, pairs_behind}
 
 abbrev pub Pairs : Type 0

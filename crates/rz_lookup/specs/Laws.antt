@@ -1,2 +1,2 @@
 -- Lemmas that other crates cite.
-pub mod LookupComes
+pub mod LookupRows

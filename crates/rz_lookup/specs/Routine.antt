@@ -1,6 +1,6 @@
 -- The lookup routine, which all sites share: it looks a value up in a table, and goes where the table leads it (Intel SDM,
 -- volume 2, "MOV", "CMP", "SHR", "LEA", "PUSHF/PUSHFD/PUSHFQ", "POPF/POPFD/POPFQ", "Jcc", "JMP").
-use Rattle.std.specs.Prelude.{◌≡◌, ℕ, pos, ◌+◌, ◌*◌, ◌^◌, ◌<◌, ◌≤◌, Bool, true, false, nat_lt, List, [], ◌∷◌, ◌++◌, length, get_or, set, Some, None, Ok, IsTrue}
+use Rattle.std.specs.Prelude.{◌≡◌, ℕ, pos, ◌+◌, ◌^◌, ◌<◌, ◌≤◌, Bool, true, false, nat_lt, List, [], ◌∷◌, ◌++◌, length, Some, None, IsTrue}
 use Rattle.std.specs.List.{list_all}
 use Rattle.rz_num.specs.declared.width.Width.{Width}
 use Rattle.rz_num.specs.declared.width.Width.TheVariants.{W32, W64}
@@ -23,15 +23,10 @@ use Rattle.rz_isa.specs.Emitted.{register, has_lookup}
 use Rattle.rz_isa.specs.Items.{Addresses, absolute}
 use Rattle.rz_isa.specs.Nodes.{Decoder}
 use Rattle.rz_isa.specs.Sizes.{IsSized}
-use Rattle.rz_image.specs.Memory.{Regions, Range, Alike, RangeStands, cell_at}
-use Rattle.rz_exec.specs.Form.{read_word}
-use Rattle.rz_exec.specs.Registers.{AreRegs}
-use Rattle.rz_sys.specs.Heap.{HasHeap}
-use Rattle.rz_machine.specs.declared.machine.Machine.{Machine}
+use Rattle.rz_image.specs.Memory.{Regions}
 use Rattle.rz_machine.specs.Added.{Layout}
-use Rattle.rz_machine.specs.State.{after}
-use Rattle.rz_machine.specs.Simulates.{HasCode, HasScratch, ItemsFrom}
-use Rattle.rz_lookup.specs.Tables.{IsTable, table_of, led}
+use Rattle.rz_machine.specs.Simulates.{HasScratch, ItemsFrom}
+use Rattle.rz_machine.specs.Lookup.{IsLookup}
 
 -- ---- instructions of the routine: RAX, RCX and RSP are registers 0, 1 and 4
 
@@ -156,69 +151,17 @@ pub record IsClosed (items : List Item) : Type 0 where
   pub some : 0 < length items
   pub own : list_all (names_own (length items)) items ≡ true
 
--- ---- what it does
-
--- bytes stand from an address on, and may be read
-pub record HasBytes (m : Regions) (a : ℕ) (bytes : List ℕ) : Type 0 where
-  pub same : (k : ℕ) → k < length bytes → (cell_at m (a + k)).byte ≡ get_or bytes k 0
-  pub readable : (k : ℕ) → k < length bytes → (cell_at m (a + k)).read ≡ true
-
--- the word of 64 bits at an address may be read, and is a number
-abbrev pub HasWord : Regions → (a v : ℕ) → Type 0
-HasWord m a v = read_word m (Some (record { at = a; width = W64 })) ≡ Ok v
-
--- the part of the scratch page that the routine writes
-abbrev pub working : ℕ → Range
-working scratch = record { low = scratch + 24; high = scratch + 4096 }
-
--- the new run stands where a site leaves it: the value is in RCX, the original's RCX and the table's address are kept
-pub record LooksUp (lay : Layout) (wm : Regions) (scratch table rcx : ℕ) (bytes : List ℕ) (t : Machine) : Type 0 where
-  pub runs : t.end ≡ None
-  pub regs : AreRegs t.cpu.regs
-  pub code : HasCode wm t.mem
-  pub added : RangeStands lay.added wm t.mem
-  pub heap : HasHeap t.mem t.world
-  pub below : lay.added.high ≤ t.world.first_break
-  pub rcx_low : rcx < 2 ^ 64
-  pub kept : HasWord t.mem scratch rcx
-  pub named : HasWord t.mem (scratch + 16) table
-  pub behind : scratch + 4096 ≤ table
-  pub inside : table + length bytes ≤ lay.added.high
-  pub stands : HasBytes t.mem table bytes
-
--- in one to `most` steps it comes to q: RCX is the original's, the other registers and the flags are as they were, and
--- memory is but for the part that the routine writes
-pub record LookedUp (dec : Decoder) (lay : Layout) (wm : Regions) (scratch rcx most q : ℕ) (t : Machine) : Type 0 where
-  pub steps : ℕ
-  pub some : 0 < steps
-  pub few : steps ≤ most
-  pub runs : (after dec steps t).end ≡ None
-  pub there : (after dec steps t).cpu.rip ≡ q
-  pub regs : (after dec steps t).cpu.regs ≡ set t.cpu.regs 1 rcx
-  pub flags : (after dec steps t).cpu.flags ≡ t.cpu.flags
-  pub world : (after dec steps t).world ≡ t.world
-  pub mem : Alike (working scratch) t.mem (after dec steps t).mem
-  pub code : HasCode wm (after dec steps t).mem
-  pub added : RangeStands lay.added wm (after dec steps t).mem
-  pub heap : HasHeap (after dec steps t).mem t.world
-
 -- ---- laws
 
 -- the labels of a list's own items name their places
 abbrev pub NamesItems : Addresses → (own : ℕ → ℕ) → Type 0
 NamesItems at own = (k : ℕ) → at (label.Item k) ≡ Some (own k)
 
--- the most steps for a table of at most 2^d pairs
-abbrev pub lookup_steps : ℕ → ℕ
-lookup_steps d = 22 + 7 * d
-
--- items look a value up in a table of at most 2^d pairs, wherever they stand and in whatever spelling
+-- items look values up, wherever they stand and in whatever spelling
 abbrev pub IsRoutine : Decoder → (scratch : ℕ) → List Item → Type 0
 IsRoutine dec scratch items =
-    (lay : Layout) (at : Addresses) (own : ℕ → ℕ) (wm : Regions) (table rcx stub d : ℕ) (pairs : List (ℕ × ℕ)) (t : Machine)
-    → NamesItems at own → ItemsFrom dec wm at own 0 t.cpu.rip items → HasScratch scratch lay.added wm
-    → IsTable stub pairs → length pairs ≤ 2 ^ d → LooksUp lay wm scratch table rcx (table_of stub pairs) t
-    → LookedUp dec lay wm scratch rcx (lookup_steps d) (led stub pairs (get_or t.cpu.regs 1 0)) t
+    (lay : Layout) (at : Addresses) (own : ℕ → ℕ) (wm : Regions) (p : ℕ) → NamesItems at own → ItemsFrom dec wm at own 0 p items
+    → HasScratch scratch lay.added wm → IsLookup dec lay wm scratch p
 
 -- items can be laid out and take at most 512 bytes, for a table of instructions with transfers that are looked up
 abbrev pub IsSizedRoutine : List Row → List Item → Type 0

@@ -2,7 +2,7 @@
 
 ghost use Rattle.std.specs.Prelude.{◌≡◌, ◌^◌, ◌<◌, ◌++◌, OnOk, OnErr};
 ghost use Rattle.std.specs.List.{AllByRecursion};
-ghost use Rattle.rz_lookup.specs.Tables.{IsTable, table_of, pairs_bytes};
+ghost use Rattle.rz_machine.specs.Tables.{IsTable, table_of, pairs_bytes};
 
 use rz_num::{Bytes, OutOfMemory, Pairs, push_u32, push_u64};
 use std::alloc::Global;

@@ -6,4 +6,5 @@ pub mod StackLaws
 mod StartRows
 pub mod StubLaws
 mod StubRows
+mod UntilRows
 pub mod StubFound

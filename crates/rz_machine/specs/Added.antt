@@ -46,6 +46,12 @@ pub record Layout : Type 0 where
   -- the place of an address's stub
   pub stub : ℕ → ℕ
 
+-- and what else labels name: the fragment of each kept address, the table of each site, and the routine
+pub record Places : Type 0 where
+  pub fragment : ℕ → ℕ
+  pub table : ℕ → ℕ
+  pub routine : ℕ
+
 abbrev pub layout_in : List ℕ → Added → Layout
 layout_in nodes a =
     record {

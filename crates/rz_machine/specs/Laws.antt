@@ -6,6 +6,9 @@ pub mod PlacedRuns
 pub mod Recorded
 pub mod RunTurns
 pub mod Sets
+pub mod Targets
+pub mod Costs
+pub mod Lookups
 pub mod StartCode
 pub mod StartHeap
 pub mod States
@@ -13,6 +16,7 @@ pub mod Steps
 pub mod Stored
 pub mod Transfers
 pub mod Trace
+pub mod Until
 pub mod Ways
 pub mod Registers
 pub mod Runs

@@ -10,6 +10,9 @@ pub mod Nodes
 pub mod Added
 pub mod Sequence
 pub mod Keeps
+pub mod Standing
+pub mod Tables
+pub mod Lookup
 pub mod WrittenFile
 pub mod Pace
 pub mod Simulates
@@ -17,6 +20,7 @@ pub mod Placement
 pub mod LeftCode
 pub mod Traced
 pub mod Ran
+pub mod Until
 pub mod Recorded
 pub mod Stub
 pub mod Calls

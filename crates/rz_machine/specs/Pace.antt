@@ -1,5 +1,5 @@
 -- How many steps a new file takes for each step of the old one.
-use Rattle.std.specs.Prelude.{◌≡◌, ℕ, zero, suc, ◌+◌, ◌<◌, ◌≤◌, Some, None}
+use Rattle.std.specs.Prelude.{◌≡◌, ℕ, zero, suc, ◌+◌, ◌<◌, ◌≤◌, ◌⊎◌, Some, None}
 use Rattle.rz_machine.specs.declared.machine.End.{End}
 use Rattle.rz_machine.specs.declared.machine.Machine.{Machine}
 use Rattle.rz_image.specs.Memory.{Range}
@@ -26,3 +26,34 @@ pub record Paced (dec : Decoder) (edges : Edges) (lay : Layout) (bound : ℕ →
   -- the step that leaves the kept edges
   pub cut : (j : ℕ) → RunClear lay.added dec x (suc j) → IsCut dec edges x j
       → (m : ℕ) × IsMoment dec lay.added bound x w (suc j) m × ((after dec m w).end ≡ None) × ((after dec m w).cpu.rip ≡ lay.stub (after dec j x).cpu.rip)
+
+-- ---- costs: the moments of the steps before any touch, up to the first end or cut
+
+-- the old run has taken all of n steps, and neither ended nor been cut
+pub record HasAll (dec : Decoder) (edges : Edges) (x w : Machine) (n k m : ℕ) : Type 0 where
+  pub all : k ≡ n
+  pub no_cut : NoCut dec edges x n
+  pub old_runs : (after dec n x).end ≡ None
+  pub new_runs : (after dec m w).end ≡ None
+
+-- step k ended it, and the new run ended alike
+pub record HasEnded (dec : Decoder) (lay : Layout) (x w : Machine) (k m : ℕ) : Type 0 where
+  pub why : End
+  pub new_why : End
+  pub old_ends : (after dec k x).end ≡ Some why
+  pub new_ends : (after dec m w).end ≡ Some new_why
+  pub alike : AlikeEnds lay.code (Some why) (Some new_why)
+
+-- step k was the cut, and the new run stands at the stub of its source
+pub record HasCut (dec : Decoder) (edges : Edges) (lay : Layout) (x w : Machine) (k m : ℕ) : Type 0 where
+  pub before : ℕ
+  pub last : k ≡ suc before
+  pub cut : IsCut dec edges x before
+  pub new_runs : (after dec m w).end ≡ None
+  pub there : (after dec m w).cpu.rip ≡ lay.stub (after dec before x).cpu.rip
+
+-- of any n steps that touch nothing that is added, each up to the first end or cut has its moment
+abbrev pub Costs : Decoder → Edges → Layout → (ℕ → ℕ) → Machine → Machine → Type 0
+Costs dec edges lay bound x w =
+    (n : ℕ) → RunClear lay.added dec x n → (k : ℕ) × (k ≤ n) × (m : ℕ) × IsMoment dec lay.added bound x w k m
+    × (HasAll dec edges x w n k m ⊎ HasEnded dec lay x w k m ⊎ HasCut dec edges lay x w k m)

@@ -1,6 +1,6 @@
 -- The sequence of a kept instruction: the items that stand for it in a new file, with their last jump. A return, an indirect
--- call or an indirect jump checks where it leads; any other instruction goes on by its kept edges, else to its stub.
-use Rattle.std.specs.Prelude.{ℕ, zero, suc, ℤ, pos, ◌+◌, ◌-ℤ◌, Bool, ◌==◌, if◌then◌else◌, List, [], ◌∷◌, ◌++◌, length, map, filter, Some, None}
+-- call or an indirect jump checks where it leads, or looks it up; any other instruction goes on by its kept edges, else to its stub.
+use Rattle.std.specs.Prelude.{ℕ, zero, suc, ℤ, pos, ◌+◌, ◌-ℤ◌, Bool, nat_le, if◌then◌else◌, List, [], ◌∷◌, ◌++◌, length, Some, None}
 use Rattle.rz_num.specs.declared.width.Width.TheVariants.{W32, W64}
 use Rattle.rz_image.specs.Memory.{wrap}
 use Rattle.rz_isa.specs.declared.decoding.Decoded.{Decoded}
@@ -21,7 +21,7 @@ use Rattle.rz_isa.specs.Nodes.{Decoder, Code, is_site, spelled_at}
 use Rattle.rz_machine.specs.declared.way.Transfer.TheVariants as transfer
 use Rattle.rz_machine.specs.declared.way.Way.{Way}
 use Rattle.rz_machine.specs.declared.way.Way.TheVariants.{Onward, Jumps, Branches, BranchesOnRcx, Transfers, Calls, Halts}
-use Rattle.rz_machine.specs.Kept.{Edges, has_edge, sorted_edges}
+use Rattle.rz_machine.specs.Kept.{Edges, has_edge, targets_of}
 use Rattle.rz_machine.specs.Way.{way_of}
 
 -- ---- of an instruction that is no site
@@ -108,16 +108,22 @@ abbrev pub check : (scratch at first previous : ℕ) → List ℕ → List Item
 check scratch at first previous [] = load_at scratch ∷ jump (label.Stub at) ∷ []
 check scratch at first previous (t ∷ rest) = piece scratch first previous t ++ check scratch at (first + 5) t rest
 
+-- ---- or the routine looks the value up: the address of the site's table goes to the third word of the scratch page
+
+abbrev pub look_up : (scratch at : ℕ) → List Item
+look_up scratch at = item.Store (scratch + 16) (label.Table at) ∷ jump label.Routine ∷ []
+
+-- up to 32 targets are tried in turn, which touches no flag; more are looked up
+abbrev pub dispatch : (scratch at first : ℕ) → List ℕ → List Item
+dispatch scratch at first targets =
+    if nat_le (length targets) 32 then check scratch at first 0 targets else look_up scratch at
+
 -- of the instruction x at an address, before `next`
 abbrev pub site_items : (scratch : ℕ) → (targets : List ℕ) → (at next : ℕ) → Insn → List Item
 site_items scratch targets at next x =
-    let head = load_value scratch next x in head ++ check scratch at (length head) 0 targets
+    let head = load_value scratch next x in head ++ dispatch scratch at (length head) targets
 
 -- ---- of any kept instruction
-
--- where the kept edges from an address lead, ascending
-abbrev pub targets_of : Edges → ℕ → List ℕ
-targets_of edges a = map (λ e. e.1) (filter (λ e. e.0 == a) (sorted_edges edges))
 
 -- of the instruction x at a, before n: a site checks its targets, with the scratch page of this address
 abbrev pub items_of : (scratch : ℕ) → Edges → ℕ → ℕ → Insn → List Item

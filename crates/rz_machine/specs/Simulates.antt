@@ -1,21 +1,25 @@
 -- Simulation: that items do what one instruction does, in all states.
-use Rattle.std.specs.Prelude.{◌≡◌, ℕ, suc, ◌+◌, ◌<◌, ◌≤◌, ◌⊎◌, Bool, true, if◌then◌else◌, List, [], ◌∷◌, Some, None, IsSomeAnd}
+pub use Rattle.rz_machine.specs.Standing.{HasCode, HasScratch}
+use Rattle.std.specs.Prelude.{◌≡◌, ℕ, suc, ◌+◌, ◌<◌, ◌≤◌, ◌⊎◌, Bool, if◌then◌else◌, IsTrue, List, [], ◌∷◌, Some, None, IsSomeAnd}
 use Rattle.rz_isa.specs.declared.decoding.Decoded.TheVariants as decoded
 use Rattle.rz_isa.specs.declared.instruction.Insn.{Insn}
 use Rattle.rz_isa.specs.declared.item_list.Item.{Item}
 use Rattle.rz_isa.specs.declared.item_list.Item.TheVariants as item
 use Rattle.rz_isa.specs.declared.item_list.Label.TheVariants as label
 use Rattle.rz_isa.specs.Items.{Addresses, resolved}
-use Rattle.rz_isa.specs.Nodes.{Decoder}
-use Rattle.rz_image.specs.Memory.{Regions, Range, IsInside, SameCode, NoSelfWritten, RangeStands, cell_at, fetch, wrap}
+use Rattle.rz_isa.specs.Insn.{kind_of}
+use Rattle.rz_isa.specs.Nodes.{Decoder, is_site}
+use Rattle.rz_image.specs.Memory.{Regions, IsInside, RangeStands, fetch, wrap}
 use Rattle.rz_exec.specs.Registers.{AreRegs}
 use Rattle.rz_sys.specs.Heap.{HasHeap}
 use Rattle.rz_machine.specs.declared.machine.End.{End}
 use Rattle.rz_machine.specs.declared.machine.Machine.{Machine}
 use Rattle.rz_machine.specs.State.{step, after}
 use Rattle.rz_machine.specs.Touches.{StepClear}
-use Rattle.rz_machine.specs.Added.{Layout}
+use Rattle.rz_machine.specs.Added.{Layout, Places}
 use Rattle.rz_machine.specs.Keeps.{Same, AlikeEnds}
+use Rattle.rz_machine.specs.Kept.{has_node}
+use Rattle.rz_machine.specs.Lookup.{HasLookup}
 
 -- ---- items in memory, in any spelling
 
@@ -30,13 +34,13 @@ abbrev pub InsnsFrom : Decoder → Regions → ℕ → List (Insn × ℕ) → Ty
 InsnsFrom dec m p [] = Unit {0}
 InsnsFrom dec m p (i ∷ rest) = InsnAt dec m p i.0 (p + i.1) × InsnsFrom dec m (p + i.1) rest
 
--- what labels name: fragments have places, and `own` are those of the items of the same list;
--- no table and no routine stands in a new file yet
-abbrev pub label_at : Layout → (place own : ℕ → ℕ) → Addresses
-label_at lay place own (label.Place a) = Some (place a)
-label_at lay place own (label.Stub a) = Some (lay.stub a)
-label_at lay place own (label.Item k) = Some (own k)
-label_at lay place own to = None
+-- what labels name, where `own` are the places of the items of the same list
+abbrev pub label_at : Layout → Places → (own : ℕ → ℕ) → Addresses
+label_at lay places own (label.Place a) = Some (places.fragment a)
+label_at lay places own (label.Stub a) = Some (lay.stub a)
+label_at lay places own (label.Item k) = Some (own k)
+label_at lay places own (label.Table a) = Some (places.table a)
+label_at lay places own label.Routine = Some places.routine
 
 abbrev pub ItemAt : Decoder → Regions → Addresses → ℕ → Item → ℕ → Type 0
 ItemAt dec m at p i next = IsSomeAnd (resolved at i) (λ x. InsnAt dec m p x next)
@@ -58,19 +62,6 @@ ItemsFrom dec m at own k p (i ∷ rest) =
     (own k ≡ p) × (((next : ℕ) × ItemAt dec m at p i next × ItemsFrom dec m at own (suc k) next rest) ⊎ MayBeMissing at k p (i ∷ rest))
 
 -- ---- states
-
--- m has the code of an older memory, and no byte of m may be both written and executed
-pub record HasCode (old m : Regions) : Type 0 where
-  pub same : SameCode old m
-  pub fixed : NoSelfWritten m
-
--- what is added begins with a page that may be read and written
-pub record HasScratch (scratch : ℕ) (r : Range) (m : Regions) : Type 0 where
-  pub first : r.low ≡ scratch
-  pub last : scratch + 4096 ≤ r.high
-  pub top : r.high ≤ 0x70000000
-  pub readable : (a : ℕ) → scratch ≤ a → a < scratch + 4096 → (cell_at m a).read ≡ true
-  pub writable : (a : ℕ) → scratch ≤ a → a < scratch + 4096 → (cell_at m a).write ≡ true
 
 -- the old run stands at an address and the new one at its place, in the same state; xm and wm are the memories of before
 pub record Stand (lay : Layout) (place : ℕ → ℕ) (xm wm : Regions) (s t : Machine) : Type 0 where
@@ -101,10 +92,12 @@ abbrev pub leads : (keeps : ℕ → Bool) → (place stub : ℕ → ℕ) → ℕ
 leads keeps place stub a b = if keeps b then place b else stub a
 
 -- the items do what the instruction y at a, before n, does, of whose successors these are kept: wherever they stand in the
--- code part, in whatever spelling, from every state whose next step touches nothing that is added, in one to `bound` steps
-unfoldable pub Simulates : Decoder → (scratch bound : ℕ) → (keeps : ℕ → Bool) → (a n : ℕ) → Insn → List Item → Type 0
-Simulates dec scratch bound keeps a n y items =
-    (lay : Layout) (place own : ℕ → ℕ) (xm wm : Regions) → InsnAt dec xm a y n
-    → ItemsFrom dec wm (label_at lay place own) own 0 (place a) items → IsInside lay.code (place a) → HasScratch scratch lay.added wm
-    → (s t : Machine) → s.cpu.rip ≡ a → Stand lay place xm wm s t → StepClear lay.added dec s
-    → Follows dec lay (leads keeps place lay.stub a) bound (step dec s) t
+-- code part, in whatever spelling, and whatever looks a site's value up in its table, from every state whose next step
+-- touches nothing that is added, in one to `bound` steps
+unfoldable pub Simulates : Decoder → (scratch bound : ℕ) → (targets : List ℕ) → (a n : ℕ) → Insn → List Item → Type 0
+Simulates dec scratch bound targets a n y items =
+    (lay : Layout) (places : Places) (own : ℕ → ℕ) (xm wm : Regions) → InsnAt dec xm a y n
+    → ItemsFrom dec wm (label_at lay places own) own 0 (places.fragment a) items → IsInside lay.code (places.fragment a)
+    → HasScratch scratch lay.added wm → (IsTrue (is_site (kind_of y)) → HasLookup dec scratch lay places targets a wm)
+    → (s t : Machine) → s.cpu.rip ≡ a → Stand lay places.fragment xm wm s t → StepClear lay.added dec s
+    → Follows dec lay (leads (has_node targets) places.fragment lay.stub a) bound (step dec s) t

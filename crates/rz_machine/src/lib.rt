@@ -4,6 +4,7 @@
 pub mod cache;
 pub mod law;
 pub mod machine;
+pub mod runs;
 pub mod start;
 pub mod stub;
 mod transfer;

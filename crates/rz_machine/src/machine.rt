@@ -72,10 +72,10 @@ pub enum Outcome {
 }
 
 impl Machine {
-    ghost use Rattle.std.specs.Prelude.{◌≡◌, ◌<◌, ℕ, IsTrue, OnOk, OnErr, IfOk};
+    ghost use Rattle.std.specs.Prelude.{◌≡◌, IsTrue, OnOk, OnErr};
     ghost use Rattle.rz_isa.specs.Decoded.{decoded};
     ghost use Rattle.rz_exec.specs.Effect.{is_named};
-    ghost use Rattle.rz_machine.specs.State.{step as step_of, after as after_of, act as act_of, perform as perform_of, perform_by, perform_action};
+    ghost use Rattle.rz_machine.specs.State.{step as step_of, act as act_of, perform as perform_of, perform_by, perform_action};
     ghost use Rattle.rz_machine.specs.Action.{Asks};
     ghost use Rattle.rz_machine.specs.Way.{way_of};
     ghost use Rattle.rz_machine.specs.declared.way.Way.TheVariants as ways;
@@ -136,23 +136,6 @@ impl Machine {
         }
         let spelled = cache.decode::<T>(alloc, &self.mem, self.cpu.rip);
         self.act(alloc, &spelled)
-    }
-
-    /// At most `n` steps, over a table of instructions, until the machine has ended.
-    /// It refuses for want of memory alone, and then the machine stands after its last whole step.
-    pub fn run<T: InsnTable>(&mut self, alloc: Global, n: u64) -> Result<Outcome, OutOfMemory>
-        ensures ok { OnOk result (self.new ≡ after_of (decoded T.rows) n self.old) }
-        ensures outcome { IfOk result (λ outcome. outcome ≡ outcome_of self.new.end) }
-        ensures err { OnErr result ((k : ℕ) × (k < n) × (self.new ≡ after_of (decoded T.rows) k self.old)) }
-    {
-        let mut cache = DecodeCache::new::<T>(alloc, &self.mem);
-        for _ in 0..n {
-            if self.end.is_some() {
-                return Ok(self.outcome());
-            }
-            self.step_with::<T>(alloc, &mut cache)?;
-        }
-        Ok(self.outcome())
     }
 
     /// Whether the run has ended, and how.

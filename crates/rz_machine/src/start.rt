@@ -6,7 +6,7 @@ ghost use Rattle.byteorder.specs.Endian.{little_bytes};
 ghost use Rattle.rz_image.specs.Memory.{Ascend, zeros};
 ghost use Rattle.rz_image.specs.Perm.{read_write};
 ghost use Rattle.rz_sys.specs.Input.{IsValid, strings};
-ghost use Rattle.rz_machine.specs.Start.{start as start_of, first_rsp, heap_region, stack_base, stack_bytes, string_addresses};
+ghost use Rattle.rz_machine.specs.Start.{start as start_of, first_rsp, first_world as first_world_of, heap_region, stack_base, stack_bytes, string_addresses};
 ghost use Rattle.rz_elf.specs.Loaded.{IsLoad, loaded, loaded_region};
 
 use crate::machine::Machine;
@@ -60,27 +60,43 @@ pub fn start(alloc: Global, elf: &Elf, input: &Input) -> Result<Machine, OutOfMe
     ensures { IfOk result (λ machine. machine ≡ start_of (loaded elf.now) input.now) }
 {
     let stack = first_stack(alloc, input.args.as_slice())?;
-    let first_break = elf.first_break;
-    let mut regions = load_regions(alloc, elf)?;
-    let heap_number = regions.len() as u32;
-    regions.push(heap(alloc, first_break)?)?;
-    regions.push(stack_region(stack.bytes))?;
+    let rsp = stack.rsp;
+    let regions = first_regions(alloc, elf, stack_region(stack.bytes))?;
     Ok(Machine {
         cpu: Cpu {
-            regs: first_registers(stack.rsp),
+            regs: first_registers(rsp),
             rip: elf.entry,
             flags: NO_FLAGS,
         },
         mem: Memory::new(regions),
-        world: World {
-            stdin: Unread::from_bytes(Bytes::from_slice(alloc, input.stdin.as_slice())?),
-            replies: input.replies.copy(alloc)?,
-            events: Events::new(alloc),
-            first_break,
-            brk: first_break,
-            heap: heap_number,
-        },
+        world: first_world(alloc, elf, input)?,
         end: None,
+    })
+}
+
+// The regions in which a run begins: what is loaded, the heap, and the stack.
+fn first_regions(alloc: Global, elf: &Elf, stack: Region) -> Result<Vec<Region>, OutOfMemory>
+    ensures { IfOk result (λ regions. regions.items
+        ≡ (loaded elf.now).loads ++ heap_region elf.now.first_break ∷ stack ∷ []) }
+{
+    let mut regions = load_regions(alloc, elf)?;
+    regions.push(heap(alloc, elf.first_break)?)?;
+    regions.push(stack)?;
+    Ok(regions)
+}
+
+// The world before the first step of a run. The heap's region follows the loads.
+fn first_world(alloc: Global, elf: &Elf, input: &Input) -> Result<World, OutOfMemory>
+    ensures { IfOk result (λ world. world ≡ first_world_of (loaded elf.now) input.now) }
+{
+    let heap = elf.loads.as_slice().len() as u32;
+    Ok(World {
+        stdin: Unread::from_bytes(Bytes::from_slice(alloc, input.stdin.as_slice())?),
+        replies: input.replies.copy(alloc)?,
+        events: Events::new(alloc),
+        first_break: elf.first_break,
+        brk: elf.first_break,
+        heap,
     })
 }
 

@@ -1,4 +1,3 @@
 mod RunTextRows
 pub mod VerdictLaws
-pub mod CountLaws
 mod VerdictRows

@@ -1,8 +1,7 @@
 -- What a comparison's loops come to.
-use Rattle.std.proofs.Common.{◌≡◌, ℕ, zero, suc, ◌+◌, ◌<◌, ◌≤◌, Bool, true, false, ◌&&◌, if◌then◌else◌, nat_eq, nat_lt, ◌==◌, List, [], ◌∷◌, length, get_or, drop, refl, sym, ap, ap₂, ◌∙◌, arith, ◌⊎◌, inl, inr, le-ltb}
+use Rattle.std.proofs.Common.{◌*◌, Option, Some, None, is_some, ◌≡◌, ℕ, suc, ◌+◌, ◌<◌, ◌≤◌, Bool, true, false, ◌&&◌, if◌then◌else◌, nat_eq, nat_lt, ◌==◌, List, [], ◌∷◌, length, get_or, drop, refl, sym, ap, ap₂, ◌∙◌, arith, ◌⊎◌, inl, inr, le-ltb}
 use Rattle.std.specs.List.{starts_with}
 use Rattle.std.specs.Cmp.Lexicographic.{pointwise}
-use Rattle.std.proofs.Math.Nat.{eq-or-lt_of_le}
 use Rattle.std.proofs.lemmas.List.{drop_more, drop_all}
 use Rattle.std.proofs.lemmas.Bool.Decides.{nat_tests}
 use Rattle.rz_isa.specs.Nodes.{Decoder}
@@ -13,50 +12,12 @@ use Rattle.rz_machine.specs.declared.machine.Machine.{Machine}
 use Rattle.rz_machine.specs.Start.{first_state}
 use Rattle.rz_machine.specs.State.{after}
 use Rattle.rz_machine.specs.Stub.{stub_word_of}
+use Rattle.rz_machine.specs.Until.{steps_until}
+use Rattle.rz_machine.specs.declared.machine.End.{End}
+use Rattle.rz_elf.specs.Executable.{executable_size}
 use Rattle.rz_replay.specs.declared.compare.Ran.{Ran}
 use Rattle.rz_replay.specs.declared.compare.Verdict.{Verdict}
-use Rattle.rz_replay.specs.Verdict.{same_event, first_difference, least, is_decided, until_decided, new_run, ran_of, verdict_at, verdict_of}
-
--- ---- the least number that passes a test
-
-pub least_at : (test : ℕ → Bool) (n k : ℕ) → k ≤ n → ((j : ℕ) → j < k → test j ≡ false) → test k ≡ true → least test n ≡ k
-least_at test zero k le before here = omega arith
-least_at test (suc n) zero le before here = rw here refl
-least_at test (suc n) (suc k) le before here =
-    let first : test 0 ≡ false = before 0 (omega arith) in
-    rw first (ap suc (least_at (λ j. test (suc j)) n k (omega arith) (λ j lt. before (suc j) (omega arith)) here))
-
-pub least_none : (test : ℕ → Bool) (n : ℕ) → ((j : ℕ) → j < n → test j ≡ false) → least test n ≡ n
-least_none test zero before = refl
-least_none test (suc n) before =
-    let first : test 0 ≡ false = before 0 (omega arith) in
-    rw first (ap suc (least_none (λ j. test (suc j)) n (λ j lt. before (suc j) (omega arith))))
-
--- ---- runs until they are decided
-
-module _ (dec : Decoder) (calls : ℕ) (s : Machine) where
-  -- none of the first states is decided
-  abbrev pub IsOpen : ℕ → Type 0
-  IsOpen k = (j : ℕ) → j < k → is_decided calls (after dec j s) ≡ false
-
-  pub IsOpen-none : IsOpen 0
-  IsOpen-none j lt = absurd (omega arith)
-
-  pub IsOpen-more : (k : ℕ) → IsOpen k → is_decided calls (after dec k s) ≡ false → IsOpen (k + 1)
-  IsOpen-more k before here j lt = go (eq-or-lt_of_le (omega arith))
-    where
-      go : (j ≡ k) ⊎ (j < k) → is_decided calls (after dec j s) ≡ false
-      go (inl same) = ap (λ i. is_decided calls (after dec i s)) same ∙ here
-      go (inr less) = before j less
-
-  pub decided_here : (n k : ℕ) (t : Machine) → t ≡ after dec k s → k ≤ n → IsOpen k → is_decided calls t ≡ true → t ≡ until_decided dec calls n s
-  unfolding until_decided
-  decided_here n k t at le before here =
-      at ∙ ap (λ i. after dec i s) (sym (least_at (λ m. is_decided calls (after dec m s)) n k le before (ap (is_decided calls) (sym at) ∙ here)))
-
-  pub never_decided : (n : ℕ) (t : Machine) → t ≡ after dec n s → IsOpen n → t ≡ until_decided dec calls n s
-  unfolding until_decided
-  never_decided n t at before = at ∙ ap (λ i. after dec i s) (sym (least_none (λ m. is_decided calls (after dec m s)) n before))
+use Rattle.rz_replay.specs.Verdict.{same_event, first_difference, is_decided, until_decided, new_run, ran_of, verdict_at, verdict_of}
 
 -- ---- the first place where two lists differ
 
@@ -119,6 +80,17 @@ equal_place (x ∷ xs) (y ∷ ys) = go (same_event x y) (pointwise same_event xs
         → (c && p) ≡ (nat_lt (suc m) (if c then 1 + k else 1) && nat_lt (suc n) (if c then 1 + k else 1))
     go true p m n k h = grind (arith, nat_tests, h)
     go false p m n k h = grind (arith, nat_tests)
+
+-- ---- how far the new file is run
+
+-- where the old run has ended
+pub decided_run : (dec : Decoder) (limit : ℕ) (new : ElfFile) (events : List Event) (end : Option End) (s t : Machine) (k size : ℕ)
+    → is_some end ≡ true → size ≡ executable_size new → k ≡ steps_until (is_decided (length events)) dec (limit * (64 + size)) s → t ≡ after dec k s
+    → t ≡ new_run dec limit new (record { events = events; end = end }) s
+unfolding until_decided
+decided_run dec limit new events None s t k size h same steps ran = cc
+decided_run dec limit new events (Some why) s t k size h same steps ran =
+    ran ∙ ap (λ j. after dec j s) steps ∙ ap (λ n. after dec (steps_until (is_decided (length events)) dec (limit * (64 + n)) s) s) same
 
 -- ---- the verdict
 

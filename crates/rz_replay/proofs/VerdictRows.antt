@@ -1,5 +1,5 @@
--- Worked rows: what two runs came to, how far a new file is run, and steps counted.
-use Rattle.std.proofs.Common.{◌≡◌, true, false, nat_lt, [], ◌∷◌, length, replicate, Some, None, refl}
+-- Worked rows: what two runs came to, and how far a new file is run.
+use Rattle.std.proofs.Common.{◌≡◌, true, false, [], ◌∷◌, length, replicate, Some, None, refl}
 use Rattle.rz_image.specs.Perm.{read_execute, read_write}
 use Rattle.rz_elf.specs.declared.elf.Load.{Load}
 use Rattle.rz_elf.specs.Loaded.{ElfFile}
@@ -12,11 +12,11 @@ use Rattle.rz_machine.specs.declared.machine.End.TheVariants as end
 use Rattle.rz_machine.specs.declared.machine.Machine.{Machine}
 use Rattle.rz_machine.specs.Start.{no_flags}
 use Rattle.rz_machine.specs.State.{after, step}
+use Rattle.rz_machine.specs.Until.{steps_until}
 use Rattle.rz_replay.specs.declared.compare.Ran.{Ran}
 use Rattle.rz_replay.specs.declared.compare.Verdict.TheVariants as verdict
 use Rattle.rz_elf.specs.Executable.{executable_size}
-use Rattle.rz_replay.specs.Counted.{steps_made}
-use Rattle.rz_replay.specs.Verdict.{same_end, first_difference, verdict_at, least, until_decided}
+use Rattle.rz_replay.specs.Verdict.{same_end, first_difference, verdict_at, until_decided}
 
 -- two system calls: a write of two bytes, and an exit
 written : Event
@@ -100,12 +100,6 @@ at-stub = refl
 
 -- ---- how far
 
-third : least (nat_lt 2) 10 ≡ 3
-third = refl
-
-none : least (nat_lt 2) 2 ≡ 2
-none = refl
-
 -- a machine that makes a call in each step
 calls : Decoder
 calls bytes at = decoded.Insn Syscall 2
@@ -125,29 +119,16 @@ first =
 
 -- it is stopped at the third call, where two were made; or by its steps; or at its end
 more-calls : length (until_decided calls 2 10 first).world.events ≡ 3
-unfolding until_decided calls first after step answer
+unfolding until_decided steps_until calls first after step answer
 more-calls = refl
 
 no-more-steps : length (until_decided calls 2 2 first).world.events ≡ 2
-unfolding until_decided calls first after step answer
+unfolding until_decided steps_until calls first after step answer
 no-more-steps = refl
 
 at-end : (until_decided lost 2 10 first).end ≡ Some (end.Unknown 0x401000)
-unfolding until_decided lost first after step
+unfolding until_decided steps_until lost first after step
 at-end = refl
-
--- a run that ends makes one step, with its end; one that doesn't makes as many as it may
-one-step : steps_made lost 10 first ≡ 1
-unfolding steps_made lost first after step
-one-step = refl
-
-all-steps : steps_made calls 3 first ≡ 3
-unfolding steps_made calls first after step answer
-all-steps = refl
-
-no-step : steps_made lost 0 first ≡ 0
-unfolding steps_made
-no-step = refl
 
 -- 65 steps are waited for in place of one, where the code of a new file has one byte
 load : Load

@@ -1,3 +1,2 @@
 pub mod RunText
 pub mod Verdict
-pub mod Counted

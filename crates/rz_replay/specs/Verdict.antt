@@ -1,5 +1,5 @@
 -- The verdict on a new file: whether its run does what the old file's run does, on the same input.
-use Rattle.std.specs.Prelude.{ℕ, zero, suc, ◌+◌, ◌*◌, Bool, true, false, ◌&&◌, ◌||◌, if◌then◌else◌, nat_eq, nat_lt, ◌==◌, List, [], ◌∷◌, length, Option, Some, None, is_some}
+use Rattle.std.specs.Prelude.{ℕ, ◌+◌, ◌*◌, Bool, true, false, ◌&&◌, ◌||◌, if◌then◌else◌, nat_eq, nat_lt, ◌==◌, List, [], ◌∷◌, length, Option, Some, None, is_some}
 use Rattle.std.specs.List.{starts_with}
 use Rattle.std.specs.Cmp.Lexicographic.{pointwise}
 use Rattle.rz_elf.specs.Executable.{executable_size}
@@ -13,6 +13,7 @@ use Rattle.rz_machine.specs.declared.machine.Machine.{Machine}
 use Rattle.rz_machine.specs.Start.{first_state}
 use Rattle.rz_machine.specs.State.{after}
 use Rattle.rz_machine.specs.Stub.{stub_word_of}
+use Rattle.rz_machine.specs.Until.{steps_until}
 use Rattle.rz_replay.specs.declared.compare.Ran.{Ran}
 use Rattle.rz_replay.specs.declared.compare.Verdict.{Verdict}
 use Rattle.rz_replay.specs.declared.compare.Verdict.TheVariants as verdict
@@ -60,18 +61,13 @@ verdict_at None old new =
 
 -- ---- how far the new file is run
 
--- the least number below n that passes a test; n where none does
-abbrev pub least : (ℕ → Bool) → ℕ → ℕ
-least test zero = 0
-least test (suc n) = if test 0 then 0 else suc (least (λ k. test (suc k)) n)
-
 -- a run has ended, or has made more than so many system calls
 abbrev pub is_decided : ℕ → Machine → Bool
 is_decided calls s = is_some s.end || nat_lt calls (length s.world.events)
 
 -- a run until then, of n steps at most
 unfoldable pub until_decided : Decoder → (calls n : ℕ) → Machine → Machine
-until_decided dec calls n s = after dec (least (λ m. is_decided calls (after dec m s)) n) s
+until_decided dec calls n s = after dec (steps_until (is_decided calls) dec n s) s
 
 -- the new run: where the old one still runs, after as many steps; where it ended, until the new one has ended too or has
 -- made more system calls, for 64 steps, and one more for each byte of its code, in place of each step of the limit

@@ -1,19 +1,19 @@
 //! Comparing the runs of two files.
 
-ghost use Rattle.std.specs.Prelude.{◌≡◌, ◌≤◌, ◌<◌, OnOk, IfOk};
+ghost use Rattle.std.specs.Prelude.{◌≡◌, ◌≤◌, IfOk};
 ghost use Rattle.std.specs.List.{starts_with};
 ghost use Rattle.std.specs.Cmp.Lexicographic.{pointwise};
 ghost use Rattle.rz_isa.specs.Decoded.{decoded};
 ghost use Rattle.rz_machine.specs.Start.{first_state};
 ghost use Rattle.rz_machine.specs.State.{after};
 ghost use Rattle.rz_sys.specs.Input.{IsValid};
-ghost use Rattle.rz_replay.specs.Verdict.{agree as agree_of, first_difference as place_of, is_decided as is_decided_of, new_run, ran_of, same_end, same_event, until_decided as until_decided_of, verdict_at, verdict_of};
+ghost use Rattle.rz_replay.specs.Verdict.{agree as agree_of, first_difference as place_of, new_run, ran_of, same_end, same_event, verdict_at, verdict_of};
 
 use rz_elf::elf::Elf;
 use rz_elf::executable::executable_size;
 use rz_isa::InsnTable;
-use rz_machine::cache::DecodeCache;
 use rz_machine::machine::{End, Machine};
+use rz_machine::runs::Observer;
 use rz_machine::start::start;
 use rz_machine::stub::stub_word;
 use rz_num::OutOfMemory;
@@ -41,6 +41,30 @@ pub enum Verdict {
 struct Ran {
     events: Events,
     end: Option<End>,
+}
+
+// The observer that stops a run that has ended or has made more than so many system calls.
+#[derive(Clone, Copy)]
+struct Decided {
+    calls: usize,
+}
+
+impl Observer for Decided {
+    ghost use Rattle.rz_replay.specs.Verdict.{is_decided};
+
+    ghost stops_at = { λ o s. is_decided o.calls s };
+
+    ghost Follows = { λ _ _ _ _ _. Unit {0} };
+
+    ghost Misses = { λ _ _ _ _ _. ⊥ };
+
+    fn stops(&self, machine: &Machine) -> bool {
+        machine.end.is_some() || machine.world.events.as_slice().len() > self.calls
+    }
+
+    fn sees(&mut self, _alloc: Global, _at: u64, _machine: &Machine) -> Result<(), OutOfMemory> {
+        Ok(())
+    }
 }
 
 /// Runs an old and a new file on the same input, the old one for at most `limit` steps, and says whether they do the
@@ -185,34 +209,11 @@ fn run_beside<T: InsnTable>(
     }
     let mut machine = start(alloc, elf, input)?;
     let steps = limit * (STEPS + executable_size(elf));
-    run_until_decided::<T>(alloc, &mut machine, wanted.events.as_slice().len(), steps)?;
+    let mut decided = Decided {
+        calls: wanted.events.as_slice().len(),
+    };
+    machine.observe::<T, Decided>(alloc, steps, &mut decided)?;
     Ok(machine)
-}
-
-// Runs a machine until it has ended or has made more than so many system calls, for at most `n` steps.
-fn run_until_decided<T: InsnTable>(
-    alloc: Global,
-    machine: &mut Machine,
-    calls: usize,
-    n: u64,
-) -> Result<(), OutOfMemory>
-    ensures { OnOk result (machine.new ≡ until_decided_of (decoded T.rows) calls n machine.old) }
-{
-    let mut cache = DecodeCache::new::<T>(alloc, &machine.mem);
-    for _ in 0..n {
-        if is_decided(machine, calls) {
-            return Ok(());
-        }
-        machine.step_with::<T>(alloc, &mut cache)?;
-    }
-    Ok(())
-}
-
-// Whether a machine has ended or has made more than so many system calls.
-fn is_decided(machine: &Machine, calls: usize) -> bool
-    ensures { result ≡ is_decided_of calls machine.now }
-{
-    machine.end.is_some() || machine.world.events.as_slice().len() > calls
 }
 
 // What a run came to. Its memory goes.

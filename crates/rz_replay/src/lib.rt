@@ -1,6 +1,5 @@
-//! What runs did: as a text, counted, and compared.
+//! What runs did: as a text, and compared.
 #![tactic(auto)]
 
 pub mod compare;
-pub mod count;
 pub mod run_text;

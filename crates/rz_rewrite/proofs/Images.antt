@@ -91,6 +91,19 @@ module _ (p : Parts) (rest : Regions) where
       let cell : cell_at Whole a ≡ cell_in scratch (a - p.base) = cond-true (contains scratch a) _ _ e in
       (ap (λ (c : Cell). c.read) cell ∙ ap (λ b. b && true) f, ap (λ (c : Cell). c.write) cell ∙ ap (λ b. b && true) f)
 
+  -- the tables part may be read and not be written
+  pub tables_there : (i : ℕ) → i < length p.tables
+      → ((cell_at Whole (tables_at + i)).byte ≡ get_or p.tables i 0) × ((cell_at Whole (tables_at + i)).read ≡ true) × ((cell_at Whole (tables_at + i)).write ≡ false)
+  unfolding cell_at scratch tables
+  tables_there i h =
+      let a = tables_at + i in
+      let e1 = apart scratch a (inr (omega (arith, length-zeros 4096))) in
+      let e2 = inside tables a (omega arith) (omega arith) in
+      let j : tables_at + i - tables_at ≡ i = omega arith in
+      let f : nat_lt i (length p.tables) ≡ true = lt-ltb i (length p.tables) h in
+      let cell : cell_at Whole (tables_at + i) ≡ cell_in tables i = cond-false (contains scratch a) _ _ e1 ∙ cond-true (contains tables a) _ _ e2 ∙ ap (cell_in tables) j in
+      (ap (λ (c : Cell). c.byte) cell, ap (λ (c : Cell). c.read) cell ∙ ap (λ b. b && true) f, ap (λ (c : Cell). c.write) cell ∙ ap (λ b. b && false) f)
+
   -- the code part may be executed
   pub code_there : BytesAt Whole code_at p.code
   unfolding cell_at scratch tables code stubs

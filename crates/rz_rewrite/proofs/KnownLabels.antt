@@ -1,5 +1,5 @@
 -- What the labels of a kept node's items name: fragments of kept nodes, the node's stub, and items of their own list.
-use Rattle.std.proofs.Common.{◌≡◌, ℕ, zero, suc, ◌+◌, ◌*◌, ◌^◌, ◌<◌, ◌≤◌, Bool, true, false, ◌||◌, ◌==◌, if◌then◌else◌, List, [], ◌∷◌, ◌++◌, length, Option, Some, IsSome, is_some, IsSomeAnd, refl, sym, ap, ◌∙◌, arith}
+use Rattle.std.proofs.Common.{◌≡◌, ℕ, zero, suc, ◌+◌, ◌*◌, ◌^◌, ◌<◌, ◌≤◌, Bool, true, false, ◌||◌, ◌==◌, if◌then◌else◌, nat_le, List, [], ◌∷◌, ◌++◌, length, Option, Some, IsSome, is_some, IsSomeAnd, refl, sym, ap, ◌∙◌, arith}
 use Rattle.std.specs.List.{AllByRecursion}
 use Rattle.rz_isa.specs.declared.decoding.Decoded.{Decoded}
 use Rattle.rz_isa.specs.declared.decoding.Decoded.TheVariants as decodeds
@@ -18,8 +18,8 @@ use Rattle.rz_machine.specs.declared.way.Transfer.TheVariants as transfer
 use Rattle.rz_machine.specs.declared.way.Way.{Way}
 use Rattle.rz_machine.specs.declared.way.Way.TheVariants.{Onward, Jumps, Branches, BranchesOnRcx, Transfers, Calls, Halts}
 use Rattle.rz_machine.specs.Way.{way_of}
-use Rattle.rz_machine.specs.Kept.{Edges, has_node, has_edge}
-use Rattle.rz_machine.specs.Sequence.{to_label, items_by, fragment_items, drop, load_value, check, site_items, targets_of, items_of, items_for}
+use Rattle.rz_machine.specs.Kept.{Edges, has_node, has_edge, targets_of}
+use Rattle.rz_machine.specs.Sequence.{to_label, items_by, fragment_items, drop, load_value, check, look_up, dispatch, site_items, items_of, items_for}
 use Rattle.rz_rewrite.specs.Fragments.{is_needless, trimmed, first_node, fragment_list, stub_pairs}
 use Rattle.rz_rewrite.proofs.KeptTargets.{each_member, has_target}
 
@@ -58,6 +58,13 @@ module _ (P : Label → Type 0) (own : (k : ℕ) → P (label.Item k)) where
     check_known scratch first previous [] h = (tt, (stub, tt))
     check_known scratch first previous (t ∷ rest) h = (tt, (own (first + 3), (own (first + 5), (tt, (h.0, check_known scratch (first + 5) t rest h.1)))))
 
+    dispatch_known : (scratch first : ℕ) (targets : List ℕ) → AllByRecursion (λ t. P (label.Place t)) targets → P (label.Table a) → P label.Routine → Known (dispatch scratch a first targets)
+    dispatch_known scratch first targets h table routine = go (nat_le (length targets) 32)
+      where
+        go : (b : Bool) → Known (if b then check scratch a first 0 targets else look_up scratch a)
+        go true = check_known scratch first 0 targets h
+        go false = (table, (routine, tt))
+
     drop_known : (n : ℕ) → Known (drop n)
     drop_known zero = tt
     drop_known (suc n) = (tt, tt)
@@ -68,19 +75,21 @@ module _ (P : Label → Type 0) (own : (k : ℕ) → P (label.Item k)) where
     load_known scratch n (insn.CallInd src) e = (tt, (tt, (tt, (tt, (tt, (tt, tt))))))
     load_known scratch n x e = cc
 
-    pub items_known : (scratch n : ℕ) (x : Insn) → Known (items_of scratch edges a n x)
-    items_known scratch n x = go (is_site (kind_of x)) refl
+    pub items_known : (scratch n : ℕ) (x : Insn) → (is_site (kind_of x) ≡ true → P (label.Table a) × P label.Routine) → Known (items_of scratch edges a n x)
+    items_known scratch n x lookup = go (is_site (kind_of x)) refl
       where
         go : (v : Bool) → is_site (kind_of x) ≡ v → Known (if v then site_items scratch (targets_of edges a) a n x else fragment_items (has_edge edges a) a n x)
         go true e =
+            let l = lookup e in
             known_append (load_value scratch n x) _ (load_known scratch n x e)
-            (check_known scratch (length (load_value scratch n x)) 0 (targets_of edges a) (each_member (λ t. P (label.Place t)) (targets_of edges a) (λ t m. places t (sym (has_target edges a t) ∙ m))))
+            (dispatch_known scratch (length (load_value scratch n x)) (targets_of edges a) (each_member (λ t. P (label.Place t)) (targets_of edges a) (λ t m. places t (sym (has_target edges a t) ∙ m))) l.0 l.1)
         go false e = way_known (way_of x) n x
 
-    pub decoded_known : (scratch : ℕ) (d : Decoded) → Known (items_for scratch edges a d)
-    decoded_known scratch (decodeds.Insn x len) = items_known scratch (wrap (a + len)) x
-    decoded_known scratch decodeds.Short = (tt, tt)
-    decoded_known scratch decodeds.Unknown = (tt, tt)
+    pub decoded_known : (scratch : ℕ) (d : Decoded) → ((x : Insn) (len : ℕ) → d ≡ decodeds.Insn x len → is_site (kind_of x) ≡ true → P (label.Table a) × P label.Routine)
+        → Known (items_for scratch edges a d)
+    decoded_known scratch (decodeds.Insn x len) lookup = items_known scratch (wrap (a + len)) x (lookup x len refl)
+    decoded_known scratch decodeds.Short lookup = (tt, tt)
+    decoded_known scratch decodeds.Unknown lookup = (tt, tt)
 
 -- ---- the fragment and the stub of a node
 

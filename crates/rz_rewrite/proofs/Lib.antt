@@ -6,6 +6,7 @@ pub mod KeepsWritten
 pub mod KeptTargets
 pub mod KnownLabels
 pub mod NewCodeLaws
+pub mod NewTables
 pub mod NodeCount
 pub mod NodeFragments
 pub mod NodeItems
@@ -21,3 +22,5 @@ pub mod Standing
 pub mod StandingFragments
 pub mod TargetRange
 pub mod TrimmedLast
+mod TablesPart
+mod TargetsAscend

@@ -1,5 +1,5 @@
 -- The fragments of the kept nodes: each has items, and they stand from the node's place on.
-use Rattle.std.proofs.Common.{◌≡◌, ℕ, ◌+◌, ◌*◌, Bool, true, false, ◌==◌, if◌then◌else◌, List, [], ◌∷◌, ◌++◌, length, Option, Some, refl, sym, ap, ap₂, ◌∙◌, arith, length-append}
+use Rattle.std.proofs.Common.{◌≡◌, ℕ, ◌+◌, ◌*◌, Bool, true, false, ◌==◌, if◌then◌else◌, nat_le, List, [], ◌∷◌, ◌++◌, length, Option, Some, refl, sym, ap, ap₂, ◌∙◌, arith, length-append}
 use Rattle.std.proofs.lemmas.List.{length-map}
 use Rattle.rz_isa.specs.declared.decoding.Decoded.{Decoded}
 use Rattle.rz_isa.specs.declared.decoding.Decoded.TheVariants as decodeds
@@ -16,9 +16,9 @@ use Rattle.rz_machine.specs.declared.way.Way.{Way}
 use Rattle.rz_machine.specs.declared.way.Way.TheVariants.{Onward, Jumps, Branches, BranchesOnRcx, Transfers, Calls, Halts}
 use Rattle.rz_machine.specs.Way.{way_of}
 use Rattle.rz_machine.specs.Added.{index_of}
-use Rattle.rz_machine.specs.Kept.{Edges, has_edge}
+use Rattle.rz_machine.specs.Kept.{Edges, has_edge, targets_of}
 use Rattle.rz_machine.specs.Laws.Ways.{kind_in, kind_by_way}
-use Rattle.rz_machine.specs.Sequence.{items_by, fragment_items, load_value, check, site_items, targets_of, items_for, node_items}
+use Rattle.rz_machine.specs.Sequence.{items_by, fragment_items, load_value, check, look_up, dispatch, site_items, items_for, node_items}
 use Rattle.rz_rewrite.specs.Fragments.{is_needless, trimmed, stub_pairs}
 
 -- ---- each list of items has one
@@ -29,6 +29,13 @@ IsCons l = (i : Item) × (rest : List Item) × (l ≡ i ∷ rest)
 checked : (scratch at first previous : ℕ) (targets : List ℕ) → IsCons (check scratch at first previous targets)
 checked scratch at first previous [] = (_, _, refl)
 checked scratch at first previous (t ∷ rest) = (_, _, refl)
+
+dispatched : (scratch at first : ℕ) (targets : List ℕ) → IsCons (dispatch scratch at first targets)
+dispatched scratch at first targets = go (nat_le (length targets) 32)
+  where
+    go : (b : Bool) → IsCons (if b then check scratch at first 0 targets else look_up scratch at)
+    go true = checked scratch at first 0 targets
+    go false = (_, _, refl)
 
 append_cons : (a b : List Item) → IsCons b → IsCons (a ++ b)
 append_cons [] b h = h
@@ -53,7 +60,7 @@ decoded_items scratch edges a (decodeds.Insn x len) = go (is_site (kind_of x)) r
     n = wrap (a + len)
 
     go : (v : Bool) → is_site (kind_of x) ≡ v → IsCons (if v then site_items scratch (targets_of edges a) a n x else fragment_items (has_edge edges a) a n x)
-    go true e = append_cons (load_value scratch n x) _ (checked scratch a (length (load_value scratch n x)) 0 (targets_of edges a))
+    go true e = append_cons (load_value scratch n x) _ (dispatched scratch a (length (load_value scratch n x)) (targets_of edges a))
     go false e = way_items (way_of x) (has_edge edges a) a n x (sym (ap is_site (kind_by_way x)) ∙ e)
 decoded_items scratch edges a decodeds.Short = (_, _, refl)
 decoded_items scratch edges a decodeds.Unknown = (_, _, refl)

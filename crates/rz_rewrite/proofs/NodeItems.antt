@@ -1,5 +1,5 @@
 -- The items of a kept node simulate its instruction, and take what the code part has for them.
-use Rattle.std.proofs.Common.{◌≡◌, ℕ, ◌+◌, ◌*◌, ◌^◌, ◌<◌, ◌≤◌, Bool, true, false, ◌||◌, ◌==◌, if◌then◌else◌, nat_le, List, [], ◌∷◌, length, filter, eqb-true, Option, Some, None, refl, sym, ap, ◌∙◌, subst, arith}
+use Rattle.std.proofs.Common.{◌≡◌, ℕ, ◌+◌, ◌*◌, ◌^◌, ◌<◌, Bool, true, false, ◌||◌, ◌==◌, if◌then◌else◌, nat_le, List, [], ◌∷◌, length, filter, eqb-true, Option, Some, None, refl, sym, ap, ◌∙◌, subst, arith}
 use Rattle.std.proofs.lemmas.Bool.Decides.{nat_tests}
 use Rattle.rz_isa.specs.declared.rows.Row.{Row}
 use Rattle.rz_isa.specs.declared.instruction.Insn.{Insn}
@@ -11,31 +11,17 @@ use Rattle.rz_isa.specs.Sizes.{IsSized}
 use Rattle.rz_isa.specs.Spells.{Spells}
 use Rattle.rz_isa.specs.Targets.{NamesLow}
 use Rattle.rz_elf.specs.Elf.{Image}
-use Rattle.rz_machine.specs.declared.machine.Machine.{Machine}
-use Rattle.rz_machine.specs.Added.{Layout}
-use Rattle.rz_machine.specs.Kept.{Kept, has_node, has_edge, sorted_edges}
-use Rattle.rz_machine.specs.Simulates.{Follows, Simulates}
-use Rattle.rz_machine.specs.Sequence.{fragment_items, site_items, targets_of, items_of}
+use Rattle.rz_machine.specs.Kept.{Kept, has_node, has_edge, sorted_edges, targets_of}
+use Rattle.rz_machine.specs.Laws.Lookups.{no_digits}
+use Rattle.rz_machine.specs.Laws.Targets.{targets_keep}
+use Rattle.rz_machine.specs.Simulates.{Simulates}
+use Rattle.rz_machine.specs.Sequence.{fragment_items, site_items, items_of}
+use Rattle.rz_machine.specs.Tables.{site_steps}
 use Rattle.rz_sites.specs.Site.{IsSite}
 use Rattle.rz_rewrite.specs.Reach.{is_high, is_out_of_reach, first_out_of_reach}
 use Rattle.rz_rewrite.specs.Calls.Table.{TableFacts}
 use Rattle.rz_rewrite.proofs.SiteSums.{most_of}
 use Rattle.rz_rewrite.proofs.KeptTargets.{each_member, has_target, target_count}
-
--- ---- more room, and another test that is the same
-
-follows_more : (dec : Decoder) (lay : Layout) (to to' : ℕ → ℕ) (bound bound' : ℕ) (s t : Machine) → bound ≤ bound' → ((b : ℕ) → to b ≡ to' b) → Follows dec lay to bound s t → Follows dec lay to' bound' s t
-follows_more dec lay to to' bound bound' s t le same f =
-    record {
-      goes = λ runs. let g = f.goes runs in (g.0, g.1, omega (arith, le, g.2), g.3, g.4 ∙ same s.cpu.rip, g.5);
-      ends = λ why over. let g = f.ends why over in (g.0, g.1, omega (arith, le, g.2), g.3, g.4, g.5, g.6);
-    }
-
-pub simulates_more : (dec : Decoder) (scratch bound bound' : ℕ) (keeps keeps' : ℕ → Bool) (a n : ℕ) (y : Insn) (items : List Item) → bound ≤ bound' → ((b : ℕ) → keeps b ≡ keeps' b)
-    → Simulates dec scratch bound keeps a n y items → Simulates dec scratch bound' keeps' a n y items
-unfolding Simulates
-simulates_more dec scratch bound bound' keeps keeps' a n y items le same h lay place own xm wm old its inside page s t rip st clear =
-    follows_more dec lay _ _ bound bound' _ t le (λ b. ap (λ v. if v then place b else lay.stub a) (same b)) (h lay place own xm wm old its inside page s t rip st clear)
 
 -- ---- what is in reach
 
@@ -63,7 +49,8 @@ in_reach dec code (a ∷ rest) b h m = go (is_out_of_reach (spelled_at dec code 
 module _ (rows : List Row) (facts : TableFacts rows) (x : Image) (kept : Kept) (scratch : ℕ) (page : scratch + 16 < 2 ^ 31)
     (nodes_low : (b : ℕ) → has_node kept.nodes b ≡ true → b < 2 ^ 31) (ends : (a b : ℕ) → has_edge kept.edges a b ≡ true → has_node kept.nodes b ≡ true) where
   -- of a node
-  module _ (b n : ℕ) (y : Insn) (low : n < 2 ^ 31) (names : NamesLow y) (spelled : (bytes : List ℕ) × (c : ℕ) × Spells rows bytes c y) where
+  module _ (b n : ℕ) (y : Insn) (low : n < 2 ^ 31) (names : NamesLow y) (spelled : (bytes : List ℕ) × (c : ℕ) × Spells rows bytes c y)
+      (few : is_site (kind_of y) ≡ true → length (targets_of kept.edges b) < 2 ^ 28) where
     abbrev items : List Item
     items = items_of scratch kept.edges b n y
 
@@ -71,24 +58,24 @@ module _ (rows : List Row) (facts : TableFacts rows) (x : Image) (kept : Kept) (
     is_site_of e = record {
       kind = e;
       next_low = low;
+      few = few e;
       targets_low = each_member (λ t. t < 2 ^ 31) (targets_of kept.edges b) (λ t m. nodes_low t (ends b t (sym (has_target kept.edges b t) ∙ m)));
       scratch_low = page;
     }
 
     -- in at most so many steps
     abbrev pub steps : Bool → ℕ
-    steps site = 64 + (if site then 4 * length (targets_of kept.edges b) else 0)
+    steps site = site_steps (if site then length (targets_of kept.edges b) else 0)
 
-    pub items_simulate : Simulates (decoded rows) scratch (steps (is_site (kind_of y))) (has_edge kept.edges b) b n y items
+    pub items_simulate : Simulates (decoded rows) scratch (steps (is_site (kind_of y))) (targets_of kept.edges b) b n y items
     items_simulate = go (is_site (kind_of y)) refl
       where
-        go : (v : Bool) → is_site (kind_of y) ≡ v → Simulates (decoded rows) scratch (steps v) (has_edge kept.edges b) b n y (if v then site_items scratch (targets_of kept.edges b) b n y else fragment_items (has_edge kept.edges b) b n y)
-        go true e =
-            simulates_more (decoded rows) scratch (16 + 4 * length (targets_of kept.edges b)) (steps true) (has_node (targets_of kept.edges b)) (has_edge kept.edges b) b n y _ (omega arith) (has_target kept.edges b)
-            (facts.sites_simulate scratch (targets_of kept.edges b) b n y (is_site_of e))
+        go : (v : Bool) → is_site (kind_of y) ≡ v → Simulates (decoded rows) scratch (steps v) (targets_of kept.edges b) b n y (if v then site_items scratch (targets_of kept.edges b) b n y else fragment_items (has_edge kept.edges b) b n y)
+        go true e = facts.sites_simulate scratch (targets_of kept.edges b) b n y (is_site_of e)
         go false e =
-            simulates_more (decoded rows) scratch 64 (steps false) (has_edge kept.edges b) (has_edge kept.edges b) b n y _ (omega arith) (λ c. refl)
-            (facts.fragments_simulate scratch (has_edge kept.edges b) b n y e low)
+            subst (λ d. Simulates (decoded rows) scratch (64 + 16 * d) (targets_of kept.edges b) b n y (fragment_items (has_edge kept.edges b) b n y)) (sym no_digits)
+            (subst (λ keeps. Simulates (decoded rows) scratch 64 (targets_of kept.edges b) b n y (fragment_items keeps b n y)) (targets_keep kept.edges b)
+            (facts.fragments_simulate scratch (targets_of kept.edges b) b n y e low))
 
     pub items_sized : (site : ℕ → Bool) → site b ≡ is_site (kind_of y) → IsSized rows items (most_of site (sorted_edges kept.edges) b)
     items_sized site same = go (is_site (kind_of y)) refl
@@ -96,12 +83,12 @@ module _ (rows : List Row) (facts : TableFacts rows) (x : Image) (kept : Kept) (
         all : ℕ
         all = length (filter (λ e. e.0 == b) (sorted_edges kept.edges))
 
-        most : (v : Bool) → is_site (kind_of y) ≡ v → most_of site (sorted_edges kept.edges) b ≡ (if v then 192 + 48 * all else 32)
-        most v e = ap (λ u. if u then 192 + 48 * all else 32) (same ∙ e)
+        most : (v : Bool) → is_site (kind_of y) ≡ v → most_of site (sorted_edges kept.edges) b ≡ (if v then 128 + 48 * all else 32)
+        most v e = ap (λ u. if u then 128 + 48 * all else 32) (same ∙ e)
 
         go : (v : Bool) → is_site (kind_of y) ≡ v → IsSized rows (if v then site_items scratch (targets_of kept.edges b) b n y else fragment_items (has_edge kept.edges b) b n y) (most_of site (sorted_edges kept.edges) b)
         go true e =
-            let long : 192 + 48 * length (targets_of kept.edges b) ≡ most_of site (sorted_edges kept.edges) b = ap (λ c. 192 + 48 * c) (target_count kept.edges b) ∙ sym (most true e) in
+            let long : 128 + 48 * length (targets_of kept.edges b) ≡ most_of site (sorted_edges kept.edges) b = ap (λ c. 128 + 48 * c) (target_count kept.edges b) ∙ sym (most true e) in
             subst (IsSized rows (site_items scratch (targets_of kept.edges b) b n y)) long (facts.sites_sized scratch (targets_of kept.edges b) b n spelled.0 spelled.1 y spelled.2 (is_site_of e) names)
         go false e =
             subst (IsSized rows (fragment_items (has_edge kept.edges b) b n y)) (sym (most false e)) (facts.fragments_sized (has_edge kept.edges b) b n spelled.0 spelled.1 y spelled.2 e names low)

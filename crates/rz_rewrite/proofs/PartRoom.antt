@@ -46,6 +46,19 @@ module _ (dec : Decoder) (x : Image) (kept : Kept) (room : HasRoom dec x kept) w
       go : (t c s stop : ℕ) → 4096 + t + c + s ≤ stop → stop - s - c - t - 4096 + 4096 ≤ stop - s - c
       go t c s stop h = omega arith
 
+  -- the tables stand behind the scratch page, and have 16 bytes a site and 8 an edge that leaves one
+  pub tables_begin : a.scratch + 4096 ≡ a.tables
+  tables_begin = go (tables_size j e) (code_size size j e) (stubs_size size) (page_floor (lowest x.loads)) room
+    where
+      go : (t c s stop : ℕ) → 4096 + t + c + s ≤ stop → stop - s - c - t - 4096 + 4096 ≡ stop - s - c - t
+      go t c s stop h = omega arith
+
+  pub tables_room : a.tables + (16 * j + 8 * e) ≤ a.code
+  tables_room = go (tables_size j e) (code_size size j e) (stubs_size size) (page_floor (lowest x.loads)) room (page_up-least (16 * j + 8 * e + 1))
+    where
+      go : (t c s stop : ℕ) → 4096 + t + c + s ≤ stop → 16 * j + 8 * e + 1 ≤ t → stop - s - c - t + (16 * j + 8 * e) ≤ stop - s - c
+      go t c s stop h long = omega arith
+
   -- the parts end at a low address
   pub stop_low : IsPlainImage x → a.stop ≤ 0x70000000
   stop_low plain = go (lowest x.loads) (lowest_low x.loads plain)

@@ -1,7 +1,9 @@
 -- The kept edges that leave sites, counted site by site.
 use Rattle.std.proofs.Common.{◌≡◌, ℕ, ◌+◌, ◌*◌, ◌<◌, ◌≤◌, Bool, true, false, ◌==◌, if◌then◌else◌, List, [], ◌∷◌, length, filter, refl, sym, subst, arith, eqb-true, ne_eqb}
 use Rattle.std.specs.List.{AllByRecursion}
+use Rattle.std.proofs.lemmas.List.{length-map}
 use Rattle.rz_machine.specs.Kept.{Edges, IsAscending}
+use Rattle.rz_rewrite.specs.Fragments.{targets_from, tables_sum}
 
 -- the number of edges that leave each site among some nodes, in all
 abbrev pub site_sum : (ℕ → Bool) → Edges → List ℕ → ℕ
@@ -66,28 +68,47 @@ sum_most site nodes up (e ∷ edges) = go (site e.0) (one_hit site e.0 nodes up)
     go true h ih = let s = sum_one site e edges nodes in omega (arith, s, h, ih)
     go false h ih = let s = sum_one site e edges nodes in omega (arith, s, h, ih)
 
--- what fragments take at most: 32 bytes a node, and where it is a site 192 and 48 for each of its targets
+-- what fragments take at most: 32 bytes a node, and where it is a site 128 and 48 for each of its targets
 abbrev pub most_of : (ℕ → Bool) → Edges → ℕ → ℕ
-most_of site edges a = if site a then 192 + 48 * length (filter (λ e. e.0 == a) edges) else 32
+most_of site edges a = if site a then 128 + 48 * length (filter (λ e. e.0 == a) edges) else 32
 
 abbrev pub most_sum : (ℕ → Bool) → Edges → List ℕ → ℕ
 most_sum site edges [] = 0
 most_sum site edges (a ∷ rest) = most_of site edges a + most_sum site edges rest
 
-sums : (site : ℕ → Bool) (edges : Edges) (nodes : List ℕ) → most_sum site edges nodes ≡ 32 * length nodes + 160 * length (filter site nodes) + 48 * site_sum site edges nodes
+sums : (site : ℕ → Bool) (edges : Edges) (nodes : List ℕ) → most_sum site edges nodes ≡ 32 * length nodes + 96 * length (filter site nodes) + 48 * site_sum site edges nodes
 sums site edges [] = refl
 sums site edges (a ∷ rest) = go (site a) (sums site edges rest)
   where
-    go : (s : Bool) → most_sum site edges rest ≡ 32 * length rest + 160 * length (filter site rest) + 48 * site_sum site edges rest
-        → (if s then 192 + 48 * length (filter (λ e. e.0 == a) edges) else 32) + most_sum site edges rest
-        ≡ 32 * length (a ∷ rest) + 160 * length (if s then a ∷ filter site rest else filter site rest) + 48 * ((if s then length (filter (λ e. e.0 == a) edges) else 0) + site_sum site edges rest)
+    go : (s : Bool) → most_sum site edges rest ≡ 32 * length rest + 96 * length (filter site rest) + 48 * site_sum site edges rest
+        → (if s then 128 + 48 * length (filter (λ e. e.0 == a) edges) else 32) + most_sum site edges rest
+        ≡ 32 * length (a ∷ rest) + 96 * length (if s then a ∷ filter site rest else filter site rest) + 48 * ((if s then length (filter (λ e. e.0 == a) edges) else 0) + site_sum site edges rest)
     go true ih = omega (arith, ih)
     go false ih = omega (arith, ih)
 
 -- so all of them take what the code part has for them
 pub most_room : (site : ℕ → Bool) (edges : Edges) (nodes : List ℕ) → IsAscending nodes
-    → most_sum site edges nodes ≤ 32 * length nodes + 160 * length (filter site nodes) + 48 * length (filter (λ e. site e.0) edges)
+    → most_sum site edges nodes ≤ 32 * length nodes + 96 * length (filter site nodes) + 48 * length (filter (λ e. site e.0) edges)
 most_room site edges nodes up = let s = sums site edges nodes in let h = sum_most site nodes up edges in omega (arith, s, h)
+
+table_sums : (site : ℕ → Bool) (edges : Edges) (nodes : List ℕ)
+    → tables_sum (targets_from edges) (filter site nodes) ≡ 16 * length (filter site nodes) + 8 * site_sum site edges nodes
+table_sums site edges [] = refl
+table_sums site edges (a ∷ rest) = go (site a) (table_sums site edges rest)
+  where
+    count : length (targets_from edges a) ≡ length (filter (λ e. e.0 == a) edges)
+    count = length-map (filter (λ e. e.0 == a) edges) (λ (e : ℕ × ℕ). e.1)
+
+    go : (s : Bool) → tables_sum (targets_from edges) (filter site rest) ≡ 16 * length (filter site rest) + 8 * site_sum site edges rest
+        → tables_sum (targets_from edges) (if s then a ∷ filter site rest else filter site rest)
+        ≡ 16 * length (if s then a ∷ filter site rest else filter site rest) + 8 * ((if s then length (filter (λ e. e.0 == a) edges) else 0) + site_sum site edges rest)
+    go true ih = omega (arith, ih, count)
+    go false ih = omega (arith, ih)
+
+-- so all of them take what the tables part has for them
+pub tables_room : (site : ℕ → Bool) (edges : Edges) (nodes : List ℕ) → IsAscending nodes
+    → tables_sum (targets_from edges) (filter site nodes) ≤ 16 * length (filter site nodes) + 8 * length (filter (λ e. site e.0) edges)
+tables_room site edges nodes up = let s = table_sums site edges nodes in let h = sum_most site nodes up edges in omega (arith, s, h)
 
 -- the edges that leave one site leave sites
 pub one_site : (site : ℕ → Bool) (b : ℕ) → site b ≡ true → (edges : Edges) → length (filter (λ e. e.0 == b) edges) ≤ length (filter (λ e. site e.0) edges)

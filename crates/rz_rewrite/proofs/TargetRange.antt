@@ -1,5 +1,5 @@
--- The kept edges from an address stand side by side.
-use Rattle.std.proofs.Common.{◌≡◌, ℕ, zero, suc, ◌<◌, ◌≤◌, Bool, true, false, cond, ltb, leb, nat_lt, ◌==◌, [], ◌∷◌, length, get_or, take, drop, filter, fold, refl, ap, ◌∙◌, subst, arith, ltb-true, ltb-false, leb-true, leb-false, eqb-true, eq-eqb}
+-- The kept edges from an address stand side by side; what stands beside a number in ascending pairs.
+use Rattle.std.proofs.Common.{◌≡◌, ℕ, zero, suc, ◌<◌, ◌≤◌, Bool, true, false, cond, if◌then◌else◌, ltb, leb, nat_lt, ◌==◌, List, [], ◌∷◌, length, get_or, take, drop, map, filter, fold, slice_index_or, refl, sym, ap, ◌∙◌, subst, arith, ltb-true, ltb-false, leb-true, leb-false, eqb-true, eq-eqb}
 use Rattle.std.specs.declared.cmp.Ordering.{Ordering}
 use Rattle.std.specs.declared.cmp.Ordering.TheVariants.{Less, Equal, Greater}
 use Rattle.std.specs.Ordering.{nat_cmp, ordering_then, match_ordering}
@@ -8,7 +8,8 @@ use Rattle.std.specs.List.Sorted.{IsNonDecreasingBy, IsPartitionPoint}
 use Rattle.std.specs.BTreeSet.{insert_key}
 use Rattle.rz_aset.specs.Sets.{edge_cmp}
 use Rattle.rz_aset.specs.Sorted.{sorted_edges}
-use Rattle.rz_machine.specs.Kept.{Edges}
+use Rattle.rz_machine.specs.Kept.{Edges, IsAscending}
+use Rattle.rz_rewrite.specs.Calls.Places.{beside_or_zero}
 
 -- ---- sorted edges ascend by their sources
 
@@ -114,3 +115,48 @@ pub slice_is : (a : ℕ) (edges : Edges) (first count : ℕ) (rest : Edges) → 
 slice_is a edges first count rest same front back =
     let P : Edges → Type 0 = λ l. IsPartitionPoint (λ e. leb e.0 a ≡ true) (λ e. leb e.0 a ≡ false) l count in
     ap (take count) same ∙ range_is a edges first count front.0 front.1 (subst P same back).0 (subst P same back).1
+
+-- ---- what stands beside a number in ascending pairs
+
+-- pairs whose first numbers ascend
+pub keys_ascend : (pairs : Edges) → IsAscending (map (λ p. p.0) pairs) → IsNonDecreasingBy (λ p. p.0) pairs
+keys_ascend pairs h = by_place pairs (ascend pairs h)
+  where
+    above : (a : ℕ) (pairs : Edges) → AllByRecursion (λ b. a < b) (map (λ p. p.0) pairs) → AllByRecursion (λ d. a ≤ d.0) pairs
+    above a [] h = tt
+    above a (p ∷ rest) h = let lt = h.0 in (omega (arith, lt), above a rest h.1)
+
+    ascend : (pairs : Edges) → IsAscending (map (λ p. p.0) pairs) → Ascend pairs
+    ascend [] h = tt
+    ascend (p ∷ rest) h = (above p.0 rest h.0, ascend rest h.1)
+
+-- the second number of the first pair; 0 where there is none
+abbrev pub first_beside : Edges → ℕ
+first_beside [] = 0
+first_beside (p ∷ rest) = p.1
+
+pub beside_first : (pairs : Edges) (a : ℕ) → beside_or_zero pairs a ≡ first_beside (filter (λ p. p.0 == a) pairs)
+beside_first [] a = refl
+beside_first (p ∷ rest) a = go (p.0 == a) (beside_first rest a)
+  where
+    go : (v : Bool) → beside_or_zero rest a ≡ first_beside (filter (λ q. q.0 == a) rest)
+        → (if v then p.1 else beside_or_zero rest a) ≡ first_beside (if v then p ∷ filter (λ q. q.0 == a) rest else filter (λ q. q.0 == a) rest)
+    go true ih = refl
+    go false ih = ih
+
+-- what there is nothing or something of among the pairs of a number
+pub nothing_beside : (pairs found : Edges) (a : ℕ) → found ≡ filter (λ p. p.0 == a) pairs → length found < 1 → 0 ≡ beside_or_zero pairs a
+nothing_beside pairs [] a e few = ap first_beside e ∙ sym (beside_first pairs a)
+nothing_beside pairs (p ∷ rest) a e few = absurd (omega (arith, few))
+
+pub first_is_beside : (pairs found : Edges) (a : ℕ) → found ≡ filter (λ p. p.0 == a) pairs → 1 ≤ length found → (slice_index_or found 0 (0, 0)).1 ≡ beside_or_zero pairs a
+first_is_beside pairs [] a e some = absurd (omega (arith, some))
+first_is_beside pairs (p ∷ rest) a e some = ap first_beside e ∙ sym (beside_first pairs a)
+
+-- each of some ascending numbers with what a function gives
+pub placed_ascend : (f : ℕ → ℕ) (nodes : List ℕ) → IsAscending nodes → (pairs : Edges) → pairs ≡ map (λ b. (b, f b)) nodes → IsNonDecreasingBy (λ p. p.0) pairs
+placed_ascend f nodes up pairs is = keys_ascend pairs (subst IsAscending (sym (ap (map (λ (p : ℕ × ℕ). p.0)) is ∙ keys nodes)) up)
+  where
+    keys : (l : List ℕ) → map (λ (p : ℕ × ℕ). p.0) (map (λ b. (b, f b)) l) ≡ l
+    keys [] = refl
+    keys (b ∷ l) = ap (λ r. b ∷ r) (keys l)

@@ -1,5 +1,5 @@
--- The fragments of what is kept, without the jumps that lead to what follows, and the stubs.
-use Rattle.std.specs.Prelude.{ℕ, ◌+◌, Bool, false, ◌==◌, if◌then◌else◌, List, [], ◌∷◌, Option, Some, None}
+-- The fragments of what is kept, without the jumps that lead to what follows, the tables of its sites, and the stubs.
+use Rattle.std.specs.Prelude.{ℕ, ◌+◌, Bool, false, ◌==◌, if◌then◌else◌, List, [], ◌∷◌, ◌++◌, length, map, filter, Option, Some, None}
 use Rattle.rz_isa.specs.declared.item_list.Label.{Label}
 use Rattle.rz_isa.specs.declared.item_list.Label.TheVariants as label
 use Rattle.rz_isa.specs.declared.item_list.Item.{Item}
@@ -9,8 +9,11 @@ use Rattle.rz_isa.specs.declared.fragment_list.Fragments.{Fragments}
 use Rattle.rz_isa.specs.Nodes.{Decoder, Code}
 use Rattle.rz_elf.specs.Format.{stub_size}
 use Rattle.rz_elf.specs.AddedRange.{Added}
-use Rattle.rz_machine.specs.Kept.{Edges}
+use Rattle.rz_machine.specs.Added.{sites}
+use Rattle.rz_machine.specs.Kept.{Edges, targets_of}
 use Rattle.rz_machine.specs.Sequence.{node_items}
+use Rattle.rz_machine.specs.Tables.{table_of, table_size, placed}
+use Rattle.rz_lookup.specs.Routine.{lookup_items}
 
 -- ---- the last jump of a fragment
 
@@ -46,12 +49,39 @@ abbrev pub stub_pairs : ℕ → List ℕ → List (ℕ × ℕ)
 stub_pairs from [] = []
 stub_pairs from (a ∷ rest) = (a, from) ∷ stub_pairs (from + stub_size) rest
 
--- for ascending nodes and edges between them, with parts that lie so; no routine stands in a new file yet
+-- ---- tables, by the targets of each site
+
+-- of edges in their order, where those from an address lead
+abbrev pub targets_from : Edges → ℕ → List ℕ
+targets_from edges a = map (λ e. e.1) (filter (λ e. e.0 == a) edges)
+
+-- the bytes that the tables of sites take
+abbrev pub tables_sum : (targets : ℕ → List ℕ) → List ℕ → ℕ
+tables_sum targets [] = 0
+tables_sum targets (a ∷ rest) = table_size (length (targets a)) + tables_sum targets rest
+
+-- each site with the place of its table, one table after the other from an address on
+abbrev pub table_pairs : (targets : ℕ → List ℕ) → ℕ → List ℕ → List (ℕ × ℕ)
+table_pairs targets from [] = []
+table_pairs targets from (a ∷ rest) = (a, from) ∷ table_pairs targets (from + table_size (length (targets a))) rest
+
+-- the tables of sites, by the places of fragments and of stubs
+abbrev pub all_tables : (targets : ℕ → List ℕ) → (place stub : ℕ → ℕ) → List ℕ → List ℕ
+all_tables targets place stub [] = []
+all_tables targets place stub (a ∷ rest) =
+    table_of (stub a) (placed place (targets a)) ++ all_tables targets place stub rest
+
+-- the routine stands where there is a site
+abbrev pub routine_for : (scratch : ℕ) → (sites : List ℕ) → List Item
+routine_for scratch [] = []
+routine_for scratch (a ∷ rest) = lookup_items scratch
+
+-- for ascending nodes and edges between them, with parts that lie so
 abbrev pub fragments : Decoder → Code → Added → Edges → List ℕ → Fragments
 fragments dec code parts edges nodes =
     record {
       list = fragment_list (node_items dec code parts.scratch edges) nodes;
-      routine = [];
-      tables = [];
+      routine = routine_for parts.scratch (sites dec code nodes);
+      tables = table_pairs (targets_of edges) parts.tables (sites dec code nodes);
       stubs = stub_pairs parts.stubs nodes;
     }

@@ -2,11 +2,14 @@
 #![tactic(auto)]
 
 pub mod added;
+mod bounds;
 mod code;
 mod fragments;
 mod law;
 pub mod nodes;
+mod ranges;
 pub mod refusal;
 pub mod rewrite;
 mod stubs;
+mod tables;
 mod targets;

@@ -1,6 +1,6 @@
 //! What stands at the kept nodes of a file, and where the kept edges lead from them.
 
-ghost use Rattle.std.specs.Prelude.{◌≡◌, length};
+ghost use Rattle.std.specs.Prelude.{◌≡◌, length, IfOk};
 ghost use Rattle.rz_elf.specs.Elf.{image_of};
 ghost use Rattle.rz_isa.specs.Decoded.{decoded};
 ghost use Rattle.rz_isa.specs.Insn.{kind_of};
@@ -59,14 +59,31 @@ pub fn is_site(insn: &Insn) -> bool
     matches!(kind(insn), Kind::CallInd | Kind::JmpInd | Kind::Ret)
 }
 
-// Whether such an instruction stands at an address.
-fn stands_site<T: InsnTable>(elf: &Elf, at: u64) -> bool
+/// Whether such an instruction stands at an address.
+pub fn stands_site<T: InsnTable>(elf: &Elf, at: u64) -> bool
     ensures { result ≡ is_site_at (decoded T.rows) (code_in (image_of elf.now.bytes).loads) at }
 {
     match decoded_at::<T>(elf, at) {
         Decoded::Insn { insn, .. } => is_site(&insn),
         Decoded::Short | Decoded::Unknown => false,
     }
+}
+
+/// The sites among these nodes of a file, in their order. It refuses for want of memory alone.
+pub fn site_words<T: InsnTable>(
+    alloc: Global,
+    elf: &Elf,
+    nodes: &[u64],
+) -> Result<Words, OutOfMemory>
+    ensures { IfOk result (λ words. words ≡ sites (decoded T.rows) (code_in (image_of elf.now.bytes).loads) nodes.now) }
+{
+    let mut words = Words::new(alloc);
+    for at in nodes {
+        if stands_site::<T>(elf, *at) {
+            words.push(*at)?;
+        }
+    }
+    Ok(words)
 }
 
 /// How many of these nodes of a file are sites.

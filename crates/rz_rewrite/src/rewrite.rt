@@ -12,15 +12,17 @@ ghost use Rattle.rz_machine.specs.WrittenFile.{Inert};
 ghost use Rattle.rz_elf.specs.AddedRange.{filled as filled_with};
 ghost use Rattle.rz_elf.specs.Format.{all_stubs, stub_size};
 ghost use Rattle.rz_rewrite.specs.Refusals.{IsRefusal, no_room_for, rip_reach_of};
-ghost use Rattle.rz_rewrite.specs.Rewritten.{CanRewrite, HasPlacement, IsNewFile, IsPaced, stubs_of};
+ghost use Rattle.rz_rewrite.specs.Rewritten.{CanRewrite, HasCosts, HasPlacement, IsBound, IsNewFile, IsPaced, greatest_bound as greatest_bound_of, stubs_of};
 ghost use Rattle.rz_rewrite.specs.Calls.Plan.{IsNew, IsPlanned};
 
 use crate::added::{AddedRange, added_range};
+use crate::bounds::greatest_bound;
 use crate::code::new_code;
 use crate::law::table_facts;
-use crate::nodes::{first_out_of_reach, site_count, site_edge_count};
+use crate::nodes::{first_out_of_reach, site_count, site_edge_count, site_words};
 use crate::refusal::Refusal;
 use crate::stubs::emit_stubs;
+use crate::tables::emit_tables;
 use rz_aset::Record;
 use rz_elf::elf::Elf;
 use rz_elf::format::INT3;
@@ -42,6 +44,12 @@ pub struct New {
     pub places: Pairs,
     /// The address of each kept node, and of its stub, in ascending order.
     pub stubs: Pairs,
+    /// The address of each kept site, and of its table, in ascending order.
+    pub tables: Pairs,
+    /// The place of the routine; 0 where there is no site.
+    pub routine: u64,
+    /// A number of steps that no step of the original takes more of.
+    pub bound: u64,
 }
 
 /// The new file of a file for what is kept of it, which could have been left by traces of its runs. It is refused with
@@ -50,8 +58,9 @@ pub struct New {
 pub fn rewrite<T: InsnTable>(alloc: Global, elf: &Elf, kept: &Record) -> Result<New, Refusal>
     requires plausible { CanRewrite (decoded T.rows) (image_of elf.now.bytes) (kept_in kept.now) }
     ensures placed { IfOk result (λ new.
-        HasPlacement (decoded T.rows) elf.now.bytes new.bytes (kept_in kept.now) new.places) }
+        HasPlacement (decoded T.rows) elf.now.bytes new.bytes (kept_in kept.now) new.places new.tables new.routine) }
     ensures paced { IfOk result (λ new. IsPaced (decoded T.rows) elf.now.bytes new.bytes (kept_in kept.now)) }
+    ensures costs { IfOk result (λ new. HasCosts (decoded T.rows) elf.now.bytes new.bytes (kept_in kept.now)) }
     ensures stubs { IfOk result (λ new.
         new.stubs ≡ stubs_of (decoded T.rows) elf.now.bytes (kept_in kept.now)) }
     ensures code { IfOk result (λ new. IsNewFile T.rows elf.now.bytes new.bytes (kept_in kept.now)) }
@@ -59,6 +68,10 @@ pub fn rewrite<T: InsnTable>(alloc: Global, elf: &Elf, kept: &Record) -> Result<
     ensures inert { IfOk result (λ new. Inert (decoded T.rows) elf.now.bytes new.bytes (kept_in kept.now)) }
     ensures base { IfOk result (λ new.
         new.base ≡ (added (decoded T.rows) (image_of elf.now.bytes) (kept_in kept.now)).scratch) }
+    ensures bound { IfOk result (λ new.
+        new.bound ≡ greatest_bound_of (decoded T.rows) (image_of elf.now.bytes) (kept_in kept.now)) }
+    ensures most { IfOk result (λ new.
+        IsBound (decoded T.rows) (image_of elf.now.bytes) (kept_in kept.now) new.bound) }
     ensures reach { OnOk result (rip_reach_of (decoded T.rows) elf.now.bytes (kept_in kept.now) ≡ None) }
     ensures room { OnOk result (no_room_for (decoded T.rows) elf.now.bytes (kept_in kept.now) ≡ None) }
     ensures refused { IfErr result (IsRefusal (decoded T.rows) elf.now.bytes (kept_in kept.now)) }
@@ -94,8 +107,17 @@ fn write_new<T: InsnTable>(
     ensures { IfOk result (λ new. IsNew T.rows elf.now.bytes (kept_in kept.now) range.now new) }
 {
     table_facts::<T>();
-    let code = new_code::<T>(alloc, elf, nodes, edges, kept, range)?;
-    let parts = parts_with(alloc, code.bytes, nodes, range)?;
+    let sites = site_words::<T>(alloc, elf, nodes)?;
+    let code = new_code::<T>(alloc, elf, nodes, edges, sites.as_slice(), kept, range)?;
+    let tables = emit_tables(
+        alloc,
+        edges,
+        sites.as_slice(),
+        code.places.as_slice(),
+        code.stubs.as_slice(),
+    )?;
+    let bound = greatest_bound::<T>(elf, nodes, edges);
+    let parts = parts_with(alloc, tables, code.bytes, nodes, range)?;
     let bytes = write_elf(alloc, elf, &parts, code.entry)?;
     are_bytes(bytes.as_slice());
     Ok(New {
@@ -103,25 +125,30 @@ fn write_new<T: InsnTable>(
         base: range.scratch,
         places: code.places,
         stubs: code.stubs,
+        tables: code.tables,
+        routine: code.routine,
+        bound,
     })
 }
 
-// The parts of a new file with this code: the tables are zeros, since no table is looked up yet.
+// The parts of a new file with these tables, which zeros follow, and this code.
 fn parts_with(
     alloc: Global,
+    tables: Bytes,
     code: Bytes,
     nodes: &[u64],
     range: &AddedRange,
 ) -> Result<Parts, OutOfMemory>
-    requires tables { range.now.tables ≤ range.now.code }
+    requires tables { length tables ≤ range.now.code - range.now.tables }
+    requires order { range.now.tables ≤ range.now.code }
     requires stubs { range.now.stubs + stub_size * length nodes.now ≤ range.now.stop }
     ensures base { IfOk result (λ parts. parts.base ≡ range.now.scratch) }
-    ensures tables { IfOk result (λ parts. parts.tables ≡ zeros (range.now.code - range.now.tables)) }
+    ensures tables { IfOk result (λ parts. parts.tables ≡ tables ++ zeros (range.now.code - range.now.tables - length tables)) }
     ensures code { IfOk result (λ parts. parts.code ≡ code) }
     ensures stubs { IfOk result (λ parts.
         parts.stubs ≡ filled_with (range.now.stop - range.now.stubs) (all_stubs range.now.stubs nodes.now)) }
 {
-    let tables = filled(Bytes::new(alloc), range.code - range.tables, 0)?;
+    let tables = filled(tables, range.code - range.tables, 0)?;
     let stubs = emit_stubs(alloc, nodes)?;
     let stubs = filled(stubs, range.stop - range.stubs, INT3)?;
     Ok(Parts {

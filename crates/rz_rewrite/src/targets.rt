@@ -1,8 +1,10 @@
 //! Where the kept edges from an address lead.
 
-ghost use Rattle.std.specs.Prelude.{◌≡◌, ◌==◌, filter, map, IfOk};
+ghost use Rattle.std.specs.Prelude.{◌≡◌, IfOk};
 ghost use Rattle.std.specs.List.Sorted.{IsNonDecreasingBy};
+ghost use Rattle.rz_rewrite.specs.Fragments.{targets_from as targets_from_of};
 
+use crate::ranges::pairs_from;
 use rz_num::{OutOfMemory, Words};
 use std::alloc::Global;
 
@@ -10,13 +12,10 @@ use std::alloc::Global;
 /// refuses for want of memory alone.
 pub fn targets_from(alloc: Global, edges: &[(u64, u64)], at: u64) -> Result<Words, OutOfMemory>
     requires { IsNonDecreasingBy (λ e. e.0) edges.now }
-    ensures { IfOk result (λ words. words ≡ map (λ e. e.1) (filter (λ e. e.0 == at) edges.now)) }
+    ensures { IfOk result (λ words. words ≡ targets_from_of edges.now at) }
 {
-    let first = edges.partition_point(|edge| edge.0 < at);
-    let from_first = &edges[first..];
-    let count = from_first.partition_point(|edge| edge.0 <= at);
     let mut words = Words::new(alloc);
-    for (_, to) in &from_first[..count] {
+    for (_, to) in pairs_from(edges, at) {
         words.push(*to)?;
     }
     Ok(words)

@@ -1,5 +1,5 @@
 -- The check of a site leads the value to its target, or to the stub, and gives RCX back.
-use Rattle.std.proofs.Common.{◌≡◌, ◌≢◌, ℕ, suc, ◌+◌, ◌-◌, ◌*◌, ◌%◌, ◌^◌, ◌<◌, ◌⊎◌, inl, inr, ⊎_elim, Bool, true, false, if◌then◌else◌, ◌==◌, ◌||◌, List, [], ◌∷◌, length, get_or, set, Some, None, Ok, refl, sym, ap, ◌∙◌, subst, arith, ne_eqb, eq-eqb, get_or-set_same}
+use Rattle.std.proofs.Common.{◌≡◌, ◌≢◌, ℕ, suc, ◌+◌, ◌-◌, ◌*◌, ◌%◌, ◌^◌, ◌<◌, ◌≤◌, ◌⊎◌, inl, inr, ⊎_elim, Bool, true, false, if◌then◌else◌, ◌==◌, ◌||◌, List, [], ◌∷◌, length, get_or, set, Some, None, Ok, refl, sym, ap, ◌∙◌, subst, arith, ne_eqb, eq-eqb, get_or-set_same}
 use Rattle.std.specs.List.{AllByRecursion}
 use Rattle.std.specs.Prelude.{pos, ◌-ℤ◌}
 use Rattle.std.proofs.lemmas.Bool.{cases_eq}
@@ -11,13 +11,14 @@ use Rattle.rz_isa.specs.declared.item_list.Item.{Item}
 use Rattle.rz_isa.specs.declared.item_list.Item.TheVariants as item
 use Rattle.rz_isa.specs.Items.{Addresses, absolute}
 use Rattle.rz_isa.specs.Nodes.{Decoder}
-use Rattle.rz_image.specs.Memory.{Regions, Alike}
+use Rattle.rz_image.specs.Memory.{Regions, Alike, RangeStands}
 use Rattle.rz_exec.specs.Form.{read_word}
 use Rattle.rz_exec.specs.Registers.{AreRegs}
 use Rattle.rz_exec.specs.Laws.Registers.{get_word}
+use Rattle.rz_sys.specs.Heap.{HasHeap}
 use Rattle.rz_sys.specs.World.{SameWorld}
 use Rattle.rz_machine.specs.declared.machine.Machine.{Machine}
-use Rattle.rz_machine.specs.Added.{Layout}
+use Rattle.rz_machine.specs.Added.{Layout, Places}
 use Rattle.rz_machine.specs.Keeps.{Same}
 use Rattle.rz_machine.specs.Kept.{has_node}
 use Rattle.rz_machine.specs.State.{step}
@@ -32,14 +33,20 @@ use Rattle.rz_sites.proofs.Steps.{load_insn, load_at_is, subtract_is}
 pub record Saved (lay : Layout) (wm : Regions) (scratch : ℕ) (s t : Machine) (m : Regions) : Type 0 where
   pub runs : t.end ≡ None
   pub code : HasCode wm m
+  pub heap : HasHeap m t.world
+  pub below : lay.added.high ≤ t.world.first_break
+  pub added : RangeStands lay.added wm m
   pub regs : AreRegs s.cpu.regs
   pub world : SameWorld s.world t.world
   pub mem : Alike lay.added s.mem m
   pub rcx : read_word m (word scratch) ≡ Ok (get_or s.cpu.regs 1 0)
 
-module _ (dec : Decoder) (lay : Layout) (place own : ℕ → ℕ) (wm : Regions) where
+module _ (dec : Decoder) (lay : Layout) (places : Places) (own : ℕ → ℕ) (wm : Regions) where
   abbrev at : Addresses
-  at = label_at lay place own
+  at = label_at lay places own
+
+  abbrev place : ℕ → ℕ
+  place = places.fragment
 
   -- ---- items that stand one after the other
 

@@ -1,6 +1,7 @@
 mod Appended
 mod Checked
 mod Moved
+mod Routed
 mod Simulated
 mod Sized
 mod Steps

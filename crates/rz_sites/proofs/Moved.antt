@@ -96,14 +96,14 @@ module _ (dec : Decoder) (lay : Layout) (wm : Regions) (scratch : ℕ) (low : sc
   pub steps_by : (x : Insn) (t : Machine) (next : ℕ) (u : Machine) → Ready t → InsnAt dec wm t.cpu.rip x next → perform x next t ≡ u → step dec t ≡ u
   steps_by x t next u h at e = step_is dec wm t.cpu.rip x next at t h.runs refl h.code ∙ e
 
-  pub open_word : (t : Machine) (i : ℕ) → Ready t → i + 8 ≤ 16 → IsOpen t.mem (scratch + i)
+  pub open_word : (t : Machine) (i : ℕ) → Ready t → i + 8 ≤ 24 → IsOpen t.mem (scratch + i)
   open_word t i h few = is_open scratch i lay.added wm t.mem page h.added (omega arith)
 
   -- RCX is saved
-  pub saves : (t : Machine) (i a u next : ℕ) → scratch + i ≡ a → i + 8 ≤ 16 → Ready t → get_or t.cpu.regs 1 0 ≡ u → u < 2 ^ 64 → InsnAt dec wm t.cpu.rip (save_insn a) next
+  pub saves : (t : Machine) (i a u next : ℕ) → scratch + i ≡ a → i + 8 ≤ 24 → Ready t → get_or t.cpu.regs 1 0 ≡ u → u < 2 ^ 64 → InsnAt dec wm t.cpu.rip (save_insn a) next
       → step dec t ≡ now t t.cpu.regs t.cpu.flags next (put_bytes t.mem a (little_bytes 8 u))
   saves t i a u next e few h rcx fits at =
       let open' : IsOpen t.mem a = subst (IsOpen t.mem) e (open_word t i h few) in
       steps_by (save_insn a) t next _ h at
-      (save_is a next t t.cpu.regs t.cpu.flags t.cpu.rip t.mem (omega (arith, low, e)) (allowed_write t.mem a open')
+      (save_is a next t t.cpu.regs t.cpu.flags t.cpu.rip t.mem (omega (arith, page.last, page.top, few, e)) (allowed_write t.mem a open')
       ∙ ap (λ v. now t t.cpu.regs t.cpu.flags next (put_bytes t.mem a (little_bytes 8 v))) (ap (λ v. v % 2 ^ 64) rcx ∙ mod-eq_of_lt fits))

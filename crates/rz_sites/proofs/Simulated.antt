@@ -1,7 +1,8 @@
 -- The items of a site simulate their instruction.
-use Rattle.std.proofs.Common.{◌≡◌, ◌≢◌, ℕ, zero, suc, ◌+◌, ◌*◌, ◌%◌, ◌^◌, ◌<◌, ◌≤◌, ◌⊎◌, inl, inr, IsTrue, List, [], ◌∷◌, length, get_or, set, Option, Some, None, Result, Ok, Err, refl, sym, ap, ◌∙◌, subst, arith, get_or-set_same, get_or-set_other}
+use Rattle.std.proofs.Common.{◌≡◌, ◌≢◌, ℕ, zero, suc, ◌+◌, ◌*◌, ◌%◌, ◌^◌, ◌<◌, ◌≤◌, ◌⊎◌, inl, inr, Bool, true, false, nat_le, if◌then◌else◌, IsTrue, List, [], ◌∷◌, ◌++◌, length, get_or, set, Option, Some, None, Result, Ok, Err, refl, sym, ap, ◌∙◌, subst, arith, get_or-set_same, get_or-set_other}
 use Rattle.std.specs.List.{AllByRecursion}
 use Rattle.std.specs.Prelude.{pos}
+use Rattle.std.proofs.lemmas.Bool.{leb-true}
 use Rattle.std.proofs.lemmas.List.{set-set, set-get_or}
 use Rattle.byteorder.specs.Endian.{little_bytes}
 use Rattle.rz_num.specs.declared.width.Width.TheVariants.{W64}
@@ -11,6 +12,7 @@ use Rattle.rz_isa.specs.declared.instruction.Insn.TheVariants as insn
 use Rattle.rz_isa.specs.declared.instruction.Place.{Place}
 use Rattle.rz_isa.specs.declared.instruction.Place.TheVariants as operands
 use Rattle.rz_isa.specs.declared.instruction.Operand.TheVariants as operand
+use Rattle.rz_isa.specs.declared.item_list.Label.TheVariants as label
 use Rattle.rz_isa.specs.declared.item_list.Item.{Item}
 use Rattle.rz_isa.specs.declared.item_list.Item.TheVariants as item
 use Rattle.rz_isa.specs.Emitted.{register}
@@ -30,16 +32,20 @@ use Rattle.rz_machine.specs.declared.machine.Machine.{Machine}
 use Rattle.rz_machine.specs.declared.way.Transfer.TheVariants as transfer
 use Rattle.rz_machine.specs.declared.way.Way.TheVariants.{Transfers}
 use Rattle.rz_machine.specs.Action.{transfer_effect}
-use Rattle.rz_machine.specs.Added.{Layout}
+use Rattle.rz_machine.specs.Added.{Layout, Places}
 use Rattle.rz_machine.specs.Keeps.{Same}
 use Rattle.rz_machine.specs.Kept.{has_node}
 use Rattle.rz_machine.specs.State.{step, after}
 use Rattle.rz_machine.specs.Touches.{StepClear}
 use Rattle.rz_machine.specs.Simulates.{InsnAt, ItemsFrom, HasScratch, Stand, Follows, Simulates, label_at, leads}
 use Rattle.rz_machine.specs.Laws.Comes.{step_is, Comes, one_more, weaker}
-use Rattle.rz_machine.specs.Sequence.{save_at, load, load_at, add_to, check, site_items}
-use Rattle.rz_sites.specs.Site.{SitesSimulate}
+use Rattle.rz_machine.specs.Lookup.{HasLookup, lookup_steps}
+use Rattle.rz_machine.specs.Tables.{binary_digits, site_steps}
+use Rattle.rz_machine.specs.Laws.Lookups.{digits_enough}
+use Rattle.rz_machine.specs.Sequence.{save_at, load, load_at, load_value, add_to, jump, check, look_up}
+use Rattle.rz_sites.specs.Site.{IsSite, SitesSimulate}
 use Rattle.rz_sites.proofs.Checked.{Saved, Stands, stands, before_check, checked}
+use Rattle.rz_sites.proofs.Routed.{routed}
 use Rattle.rz_sites.proofs.Moved.{goes_on, both_end, none_after, after_more, insn_clear, Ready, ready_to, steps_by, open_word, saves}
 use Rattle.rz_machine.specs.Laws.States.{now, fault_at}
 use Rattle.rz_sites.proofs.Steps.{save_insn, load_insn, add_insn, loaded, load_is, load_at_is, popped_to, pop_is, drop_is, pushed, push_is}
@@ -51,13 +57,24 @@ unequal : (i j : ℕ) → (i < j) ⊎ (j < i) → i ≢ j
 unequal i j (inl h) e = omega (arith, h, e)
 unequal i j (inr h) e = omega (arith, h, e)
 
-module _ (dec : Decoder) (lay : Layout) (place own : ℕ → ℕ) (xm wm : Regions) (scratch a n : ℕ) (ts : List ℕ) (low : scratch + 16 < 2 ^ 31) (all : AllByRecursion (λ x. x < 2 ^ 31) ts)
-    (page : HasScratch scratch lay.added wm) (s t : Machine) (rip : s.cpu.rip ≡ a) (st : Stand lay place xm wm s t) where
-  abbrev at : Addresses
-  at = label_at lay place own
+-- an item before these is not the last
+abbrev Begins : Decoder → Layout → Places → (own : ℕ → ℕ) → Regions → (ℕ → List Item) → Type 0
+Begins dec lay places own wm rest = (k p j : ℕ) (i : Item) → ItemsFrom dec wm (label_at lay places own) own k p (i ∷ rest j) → Stands dec lay places own wm k p i (rest j)
 
-  abbrev bound : ℕ
-  bound = 16 + 4 * length ts
+-- from these, with the value in RCX, the new run comes to where the value leads
+abbrev LeadsOn : Decoder → Layout → Places → (own : ℕ → ℕ) → Regions → (scratch a most : ℕ) → List ℕ → (ℕ → List Item) → Type 0
+LeadsOn dec lay places own wm scratch a most ts rest =
+    (u t : Machine) (m : Regions) → Saved lay wm scratch u t m → (k p v : ℕ) → v < 2 ^ 64 → ItemsFrom dec wm (label_at lay places own) own k p (rest k)
+    → Comes dec lay.added u (now t (set u.cpu.regs 1 v) u.cpu.flags p m) 1 most (leads (has_node ts) places.fragment lay.stub a v)
+
+module _ (dec : Decoder) (lay : Layout) (places : Places) (own : ℕ → ℕ) (xm wm : Regions) (scratch a n : ℕ) (ts : List ℕ) (low : scratch + 16 < 2 ^ 31)
+    (rest : ℕ → List Item) (most bound : ℕ) (room : 8 + most ≤ bound) (begins : Begins dec lay places own wm rest) (leads_to : LeadsOn dec lay places own wm scratch a most ts rest)
+    (page : HasScratch scratch lay.added wm) (s t : Machine) (rip : s.cpu.rip ≡ a) (st : Stand lay places.fragment xm wm s t) where
+  abbrev at : Addresses
+  at = label_at lay places own
+
+  abbrev place : ℕ → ℕ
+  place = places.fragment
 
   abbrev to : ℕ → ℕ
   to = leads (has_node ts) place lay.stub a
@@ -126,11 +143,11 @@ module _ (dec : Decoder) (lay : Layout) (place own : ℕ → ℕ) (xm wm : Regio
       let u : Machine = fault_at x (first p) in
       let over : after dec 2 (now t regs flags (place a) t.mem) ≡ u = after_more dec 1 _ (first p) u (first_step p i) (after_more dec 0 (first p) u u e (none_after dec u)) in
       let same : Same lay.added (fault_at x s) u = record { regs = refl; flags = refl; world = st.same.world; mem = first_alike } in
-      from_start (fault_at x s) (both_end dec lay to bound (fault_at x s) _ u 2 x (omega arith) (omega arith) over refl refl same)
+      from_start (fault_at x s) (both_end dec lay to bound (fault_at x s) _ u 2 x (omega arith) (omega (arith, room)) over refl refl same)
 
   -- ---- an indirect jump
 
-  by_jump : (src : Place) → InsnAt dec xm a (insn.JmpInd src) n → StepClear lay.added dec s → ItemsFrom dec wm at own 0 (place a) (site_items scratch ts a n (insn.JmpInd src)) → Goal (step dec s)
+  by_jump : (src : Place) → InsnAt dec xm a (insn.JmpInd src) n → StepClear lay.added dec s → ItemsFrom dec wm at own 0 (place a) (load_value scratch n (insn.JmpInd src) ++ rest 2) → Goal (step dec s)
   by_jump src old clear h =
       subst Goal (sym (step_is dec xm a (insn.JmpInd src) n old s st.old_runs rip st.old_code ∙ jump_is src n s o refl)) (go o refl)
     where
@@ -140,11 +157,11 @@ module _ (dec : Decoder) (lay : Layout) (place own : ℕ → ℕ) (xm wm : Regio
       touched : WordClear lay.added (word_of W64 regs src)
       touched = let c = insn_clear dec lay.added xm (insn.JmpInd src) (Transfers (transfer.JmpInd src)) a n s refl old rip st.old_runs st.old_code clear in c.first
 
-      s1 : Stands dec lay place own wm 0 (place a) (save_at scratch) (load src ∷ check scratch a 2 0 ts)
-      s1 = stands dec lay place own wm 0 (place a) (save_at scratch) (load src) (check scratch a 2 0 ts) h
+      s1 : Stands dec lay places own wm 0 (place a) (save_at scratch) (load src ∷ rest 2)
+      s1 = stands dec lay places own wm 0 (place a) (save_at scratch) (load src) (rest 2) h
 
-      s2 : Stands dec lay place own wm 1 s1.0 (load src) (check scratch a 2 0 ts)
-      s2 = before_check dec lay place own wm scratch a (omega (arith, low)) 1 s1.0 2 0 (load src) ts s1.2
+      s2 : Stands dec lay places own wm 1 s1.0 (load src) (rest 2)
+      s2 = begins 1 s1.0 2 (load src) s1.2
 
       second : (r : Result ℕ Exception) → o ≡ r → step dec (first s1.0) ≡ loaded src s2.0 t regs flags s1.0 first_mem r
       second r e =
@@ -157,11 +174,10 @@ module _ (dec : Decoder) (lay : Layout) (place own : ℕ → ℕ) (xm wm : Regio
           let v : ℕ = value_of W64 regs src w % 2 ^ 64 in
           let u : Machine = jumped src s (Ok w) in
           let t2 : Machine = now t (set regs 1 v) flags s2.0 first_mem in
-          let saved : Saved lay wm scratch u t first_mem = record { runs = st.new_runs; code = (first_ready s1.0 s1.1).code; regs = st.regs; world = st.same.world; mem = first_alike; rcx = first_word } in
-          let c = checked dec lay place own wm scratch a (omega (arith, low)) u t first_mem saved ts 2 s2.0 v (omega arith) all s2.2 in
-          let most : ℕ = 2 + 4 * length ts in
+          let saved : Saved lay wm scratch u t first_mem = record { runs = st.new_runs; code = (first_ready s1.0 s1.1).code; heap = (first_ready s1.0 s1.1).heap; below = st.below; added = (first_ready s1.0 s1.1).added; regs = st.regs; world = st.same.world; mem = first_alike; rcx = first_word } in
+          let c = leads_to u t first_mem saved 2 s2.0 v (omega arith) s2.2 in
           let both = one_more dec lay.added u (now t regs flags (place a) t.mem) (first s1.0) 2 (suc most) (to v) (first_step s1.0 s1.1) (one_more dec lay.added u (first s1.0) t2 1 most (to v) (second (Ok w) e) c) in
-          from_start u (goes_on dec lay to bound u _ 3 (suc (suc most)) st.old_runs (omega arith) (omega arith) both)
+          from_start u (goes_on dec lay to bound u _ 3 (suc (suc most)) st.old_runs (omega arith) (omega (arith, room)) both)
 
   -- ---- a return
 
@@ -174,7 +190,10 @@ module _ (dec : Decoder) (lay : Layout) (place own : ℕ → ℕ) (xm wm : Regio
   get_between : (xs : List ℕ) (b c : ℕ) → 4 < length xs → get_or (set (set xs 4 b) 1 c) 4 0 ≡ b
   get_between xs b c h = get_or-set_other (set xs 4 b) 1 4 c 0 (unequal 4 1 (inr (omega arith))) ∙ get_or-set_same xs 4 b 0 h
 
-  by_return : (bytes : ℕ) → InsnAt dec xm a (insn.Ret bytes) n → StepClear lay.added dec s → ItemsFrom dec wm at own 0 (place a) (site_items scratch ts a n (insn.Ret bytes)) → Goal (step dec s)
+  abbrev return_items : ℕ → List Item
+  return_items count = load_value scratch n (insn.Ret count) ++ rest (length (load_value scratch n (insn.Ret count)))
+
+  by_return : (bytes : ℕ) → InsnAt dec xm a (insn.Ret bytes) n → StepClear lay.added dec s → ItemsFrom dec wm at own 0 (place a) (return_items bytes) → Goal (step dec s)
   by_return bytes old clear h =
       subst Goal (sym (step_is dec xm a (insn.Ret bytes) n old s st.old_runs rip st.old_code ∙ return_is bytes n s o refl)) (by_count bytes h)
     where
@@ -195,38 +214,35 @@ module _ (dec : Decoder) (lay : Layout) (place own : ℕ → ℕ) (xm wm : Regio
       -- where RSP has grown by all, the check leads on
       leads_on : (k w p q z grown : ℕ) → (i : InsnAt dec wm (place a) (save_insn scratch) p) → step dec (first p) ≡ now t (popped w) flags q first_mem → grown < 2 ^ 64
           → ((u : Machine) (most y : ℕ) → Comes dec lay.added u (now t (set (set regs 4 grown) 1 (w % 2 ^ 64)) flags z first_mem) 1 most y → Comes dec lay.added u (now t (popped w) flags q first_mem) 1 (suc most) y)
-          → ItemsFrom dec wm at own k z (check scratch a k 0 ts) → Goal (now s (set regs 4 grown) flags (wrap w) s.mem)
+          → ItemsFrom dec wm at own k z (rest k) → Goal (now s (set regs 4 grown) flags (wrap w) s.mem)
       leads_on k w p q z grown i e fits more items =
-          from_start u (goes_on dec lay to bound u _ 3 (suc (suc (suc most))) st.old_runs (omega arith) (omega arith) three)
+          from_start u (goes_on dec lay to bound u _ 3 (suc (suc (suc most))) st.old_runs (omega arith) (omega (arith, room)) three)
         where
           u : Machine
           u = now s (set regs 4 grown) flags (wrap w) s.mem
-
-          most : ℕ
-          most = 2 + 4 * length ts
 
           kept : get_or s.cpu.regs 1 0 ≡ get_or (set regs 4 grown) 1 0
           kept = sym (get_or-set_other regs 4 1 grown 0 (unequal 1 4 (inl (omega arith))))
 
           saved : Saved lay wm scratch u t first_mem
-          saved = record { runs = st.new_runs; code = (first_ready p i).code; regs = set_regs regs 4 grown st.regs fits; world = st.same.world; mem = first_alike; rcx = first_word ∙ ap Ok kept }
+          saved = record { runs = st.new_runs; code = (first_ready p i).code; heap = (first_ready p i).heap; below = st.below; added = (first_ready p i).added; regs = set_regs regs 4 grown st.regs fits; world = st.same.world; mem = first_alike; rcx = first_word ∙ ap Ok kept }
 
           last : Comes dec lay.added u (now t (set (set regs 4 grown) 1 (w % 2 ^ 64)) flags z first_mem) 1 most (to (w % 2 ^ 64))
-          last = checked dec lay place own wm scratch a (omega (arith, low)) u t first_mem saved ts k z (w % 2 ^ 64) (omega arith) all items
+          last = leads_to u t first_mem saved k z (w % 2 ^ 64) (omega arith) items
 
           three : Comes dec lay.added u (now t regs flags (place a) t.mem) 3 (suc (suc (suc most))) (to (w % 2 ^ 64))
           three =
               one_more dec lay.added u (now t regs flags (place a) t.mem) (first p) 2 (suc (suc most)) (to (w % 2 ^ 64)) (first_step p i)
               (one_more dec lay.added u (first p) (now t (popped w) flags q first_mem) 1 (suc most) (to (w % 2 ^ 64)) e (more u most (to (w % 2 ^ 64)) last))
 
-      by_count : (count : ℕ) → ItemsFrom dec wm at own 0 (place a) (site_items scratch ts a n (insn.Ret count)) → Goal (returned count s o)
+      by_count : (count : ℕ) → ItemsFrom dec wm at own 0 (place a) (return_items count) → Goal (returned count s o)
       by_count zero h = go o refl
         where
-          s1 : Stands dec lay place own wm 0 (place a) (save_at scratch) (item.Whole (insn.Pop (register 1)) ∷ check scratch a 2 0 ts)
-          s1 = stands dec lay place own wm 0 (place a) (save_at scratch) (item.Whole (insn.Pop (register 1))) (check scratch a 2 0 ts) h
+          s1 : Stands dec lay places own wm 0 (place a) (save_at scratch) (item.Whole (insn.Pop (register 1)) ∷ rest 2)
+          s1 = stands dec lay places own wm 0 (place a) (save_at scratch) (item.Whole (insn.Pop (register 1))) (rest 2) h
 
-          s2 : Stands dec lay place own wm 1 s1.0 (item.Whole (insn.Pop (register 1))) (check scratch a 2 0 ts)
-          s2 = before_check dec lay place own wm scratch a (omega (arith, low)) 1 s1.0 2 0 (item.Whole (insn.Pop (register 1))) ts s1.2
+          s2 : Stands dec lay places own wm 1 s1.0 (item.Whole (insn.Pop (register 1))) (rest 2)
+          s2 = begins 1 s1.0 2 (item.Whole (insn.Pop (register 1))) s1.2
 
           go : (r : Result ℕ Exception) → o ≡ r → Goal (returned 0 s r)
           go (Err x) e = second_faults x s1.0 s1.1 (second (Err x) s1.0 s2.0 s1.1 s2.1 e)
@@ -236,14 +252,14 @@ module _ (dec : Decoder) (lay : Layout) (place own : ℕ → ℕ) (xm wm : Regio
               (λ u most y c. weaker dec lay.added u _ 1 most 1 (suc most) y (omega arith) (omega arith) (subst (λ g. Comes dec lay.added u (now t (set (set regs 4 g) 1 (w % 2 ^ 64)) flags s2.0 first_mem) 1 most y) same c)) s2.2
       by_count (suc j) h = go o refl
         where
-          s1 : Stands dec lay place own wm 0 (place a) (save_at scratch) (item.Whole (insn.Pop (register 1)) ∷ add_to 4 (pos (suc j)) ∷ check scratch a 3 0 ts)
-          s1 = stands dec lay place own wm 0 (place a) (save_at scratch) (item.Whole (insn.Pop (register 1))) (add_to 4 (pos (suc j)) ∷ check scratch a 3 0 ts) h
+          s1 : Stands dec lay places own wm 0 (place a) (save_at scratch) (item.Whole (insn.Pop (register 1)) ∷ add_to 4 (pos (suc j)) ∷ rest 3)
+          s1 = stands dec lay places own wm 0 (place a) (save_at scratch) (item.Whole (insn.Pop (register 1))) (add_to 4 (pos (suc j)) ∷ rest 3) h
 
-          s2 : Stands dec lay place own wm 1 s1.0 (item.Whole (insn.Pop (register 1))) (add_to 4 (pos (suc j)) ∷ check scratch a 3 0 ts)
-          s2 = stands dec lay place own wm 1 s1.0 (item.Whole (insn.Pop (register 1))) (add_to 4 (pos (suc j))) (check scratch a 3 0 ts) s1.2
+          s2 : Stands dec lay places own wm 1 s1.0 (item.Whole (insn.Pop (register 1))) (add_to 4 (pos (suc j)) ∷ rest 3)
+          s2 = stands dec lay places own wm 1 s1.0 (item.Whole (insn.Pop (register 1))) (add_to 4 (pos (suc j))) (rest 3) s1.2
 
-          s3 : Stands dec lay place own wm 2 s2.0 (add_to 4 (pos (suc j))) (check scratch a 3 0 ts)
-          s3 = before_check dec lay place own wm scratch a (omega (arith, low)) 2 s2.0 3 0 (add_to 4 (pos (suc j))) ts s2.2
+          s3 : Stands dec lay places own wm 2 s2.0 (add_to 4 (pos (suc j))) (rest 3)
+          s3 = begins 2 s2.0 3 (add_to 4 (pos (suc j))) s2.2
 
           go : (r : Result ℕ Exception) → o ≡ r → Goal (returned (suc j) s r)
           go (Err x) e = second_faults x s1.0 s1.1 (second (Err x) s1.0 s2.0 s1.1 s2.1 e)
@@ -264,7 +280,7 @@ module _ (dec : Decoder) (lay : Layout) (place own : ℕ → ℕ) (xm wm : Regio
 
   -- ---- an indirect call
 
-  module _ (src : Place) (old : InsnAt dec xm a (insn.CallInd src) n) (clear : StepClear lay.added dec s) (h : ItemsFrom dec wm at own 0 (place a) (site_items scratch ts a n (insn.CallInd src))) where
+  module _ (src : Place) (old : InsnAt dec xm a (insn.CallInd src) n) (clear : StepClear lay.added dec s) (h : ItemsFrom dec wm at own 0 (place a) (load_value scratch n (insn.CallInd src) ++ rest 6)) where
     abbrev operand_read : Result ℕ Exception
     operand_read = read_word s.mem (word_of W64 s.cpu.regs src)
 
@@ -277,7 +293,7 @@ module _ (dec : Decoder) (lay : Layout) (place own : ℕ → ℕ) (xm wm : Regio
         record { first = c.first; rest = c.rest }
 
     abbrev r5 : List Item
-    r5 = load_at (scratch + 8) ∷ check scratch a 6 0 ts
+    r5 = load_at (scratch + 8) ∷ rest 6
 
     abbrev r4 : List Item
     r4 = item.Whole (insn.Push (operand.Imm n)) ∷ r5
@@ -288,23 +304,23 @@ module _ (dec : Decoder) (lay : Layout) (place own : ℕ → ℕ) (xm wm : Regio
     abbrev r2 : List Item
     r2 = save_at (scratch + 8) ∷ r3
 
-    s1 : Stands dec lay place own wm 0 (place a) (save_at scratch) (load src ∷ r2)
-    s1 = stands dec lay place own wm 0 (place a) (save_at scratch) (load src) r2 h
+    s1 : Stands dec lay places own wm 0 (place a) (save_at scratch) (load src ∷ r2)
+    s1 = stands dec lay places own wm 0 (place a) (save_at scratch) (load src) r2 h
 
-    s2 : Stands dec lay place own wm 1 s1.0 (load src) r2
-    s2 = stands dec lay place own wm 1 s1.0 (load src) (save_at (scratch + 8)) r3 s1.2
+    s2 : Stands dec lay places own wm 1 s1.0 (load src) r2
+    s2 = stands dec lay places own wm 1 s1.0 (load src) (save_at (scratch + 8)) r3 s1.2
 
-    s3 : Stands dec lay place own wm 2 s2.0 (save_at (scratch + 8)) r3
-    s3 = stands dec lay place own wm 2 s2.0 (save_at (scratch + 8)) (load_at scratch) r4 s2.2
+    s3 : Stands dec lay places own wm 2 s2.0 (save_at (scratch + 8)) r3
+    s3 = stands dec lay places own wm 2 s2.0 (save_at (scratch + 8)) (load_at scratch) r4 s2.2
 
-    s4 : Stands dec lay place own wm 3 s3.0 (load_at scratch) r4
-    s4 = stands dec lay place own wm 3 s3.0 (load_at scratch) (item.Whole (insn.Push (operand.Imm n))) r5 s3.2
+    s4 : Stands dec lay places own wm 3 s3.0 (load_at scratch) r4
+    s4 = stands dec lay places own wm 3 s3.0 (load_at scratch) (item.Whole (insn.Push (operand.Imm n))) r5 s3.2
 
-    s5 : Stands dec lay place own wm 4 s4.0 (item.Whole (insn.Push (operand.Imm n))) r5
-    s5 = stands dec lay place own wm 4 s4.0 (item.Whole (insn.Push (operand.Imm n))) (load_at (scratch + 8)) (check scratch a 6 0 ts) s4.2
+    s5 : Stands dec lay places own wm 4 s4.0 (item.Whole (insn.Push (operand.Imm n))) r5
+    s5 = stands dec lay places own wm 4 s4.0 (item.Whole (insn.Push (operand.Imm n))) (load_at (scratch + 8)) (rest 6) s4.2
 
-    s6 : Stands dec lay place own wm 5 s5.0 (load_at (scratch + 8)) (check scratch a 6 0 ts)
-    s6 = before_check dec lay place own wm scratch a (omega (arith, low)) 5 s5.0 6 0 (load_at (scratch + 8)) ts s5.2
+    s6 : Stands dec lay places own wm 5 s5.0 (load_at (scratch + 8)) (rest 6)
+    s6 = begins 5 s5.0 6 (load_at (scratch + 8)) s5.2
 
     second : (r : Result ℕ Exception) → operand_read ≡ r → step dec (first s1.0) ≡ loaded src s2.0 t regs flags s1.0 first_mem r
     second r e =
@@ -394,7 +410,7 @@ module _ (dec : Decoder) (lay : Layout) (place own : ℕ → ℕ) (xm wm : Regio
           let over : after dec 5 start0 ≡ u =
           after_more dec 4 start0 t1 u (first_step s1.0 s1.1) (after_more dec 3 t1 t2 u e2 (after_more dec 2 t2 t3 u e3 (after_more dec 1 t3 t4 u e4 (after_more dec 0 t4 u u (fifth (Some bad) e) (none_after dec u))))) in
           let same : Same lay.added (fault_at (Memory bad) s) u = record { regs = refl; flags = refl; world = st.same.world; mem = both_alike } in
-          from_start (fault_at (Memory bad) s) (both_end dec lay to bound (fault_at (Memory bad) s) start0 u 5 (Memory bad) (omega arith) (omega arith) over refl refl same)
+          from_start (fault_at (Memory bad) s) (both_end dec lay to bound (fault_at (Memory bad) s) start0 u 5 (Memory bad) (omega arith) (omega (arith, room)) over refl refl same)
 
       -- ---- the push was allowed: the value comes back into RCX, and is checked
 
@@ -419,13 +435,10 @@ module _ (dec : Decoder) (lay : Layout) (place own : ℕ → ℕ) (xm wm : Regio
       pushed_value = word_stays_inside lay.added both_mem (scratch + 8) top_word (little_bytes 8 n) (omega (arith, bottom)) (omega (arith, high)) top pushed_clear ∙ both_value
 
       pushed_goes : not_written ≡ None → Goal (called_by src n s w None)
-      pushed_goes e = from_start u (goes_on dec lay to bound u start0 7 (6 + most) st.old_runs (omega arith) (omega arith) whole)
+      pushed_goes e = from_start u (goes_on dec lay to bound u start0 7 (6 + most) st.old_runs (omega arith) (omega (arith, room)) whole)
         where
           u : Machine
           u = called_by src n s w None
-
-          most : ℕ
-          most = 2 + 4 * length ts
 
           e5 : step dec t4 ≡ t5
           e5 = fifth None e
@@ -443,6 +456,9 @@ module _ (dec : Decoder) (lay : Layout) (place own : ℕ → ℕ) (xm wm : Regio
               record {
                 runs = st.new_runs;
                 code = ready5.code;
+                heap = ready5.heap;
+                below = ready5.below;
+                added = ready5.added;
                 regs = set_regs regs 4 (top_word % 2 ^ 64) st.regs (omega arith);
                 world = st.same.world;
                 mem = alike_puts lay.added s.mem both_mem top_word (little_bytes 8 n) pushed_clear both_alike;
@@ -450,7 +466,7 @@ module _ (dec : Decoder) (lay : Layout) (place own : ℕ → ℕ) (xm wm : Regio
               }
 
           last : Comes dec lay.added u (now t (set grown 1 v) flags s6.0 pushed_mem) 1 most (to v)
-          last = checked dec lay place own wm scratch a (omega (arith, low)) u t pushed_mem saved ts 6 s6.0 v v_fits all s6.2
+          last = leads_to u t pushed_mem saved 6 s6.0 v v_fits s6.2
 
           three : Comes dec lay.added u t3 4 (3 + most) (to v)
           three = weaker dec lay.added u t3 4 (suc (suc (suc most))) 4 (3 + most) (to v) (omega arith) (omega arith) (one_more dec lay.added u t3 t4 3 (suc (suc most)) (to v) e4 (one_more dec lay.added u t4 t5 2 (suc most) (to v) e5 (one_more dec lay.added u t5 _ 1 most (to v) e6 last)))
@@ -471,13 +487,49 @@ module _ (dec : Decoder) (lay : Layout) (place own : ℕ → ℕ) (xm wm : Regio
         go (Err x) e = second_faults x s1.0 s1.1 (second (Err x) e)
         go (Ok w) e = pushed_or_not w e not_written refl
 
+-- ---- by either form
+
+-- the steps of a check are within the bound
+few_steps : (c : ℕ) → c ≤ 32 → 8 + (2 + 4 * c) ≤ site_steps c
+few_steps c h = by_digits (binary_digits c) (digits_enough c (omega (arith, h)))
+  where
+    by_digits : (d : ℕ) → c < 2 ^ d → 8 + (2 + 4 * c) ≤ 64 + 16 * d
+    by_digits zero lt = omega (arith, lt)
+    by_digits (suc zero) lt = omega (arith, lt)
+    by_digits (suc (suc zero)) lt = omega (arith, lt)
+    by_digits (suc (suc (suc zero))) lt = omega (arith, lt)
+    by_digits (suc (suc (suc (suc zero)))) lt = omega (arith, lt)
+    by_digits (suc (suc (suc (suc (suc d))))) lt = omega (arith, h)
+
+module _ (dec : Decoder) (scratch : ℕ) (ts : List ℕ) (a n : ℕ) (x : Insn) (site : IsSite scratch ts n x) (lay : Layout) (places : Places) (own : ℕ → ℕ) (xm wm : Regions)
+    (old : InsnAt dec xm a x n) (page : HasScratch scratch lay.added wm) (has : HasLookup dec scratch lay places ts a wm) (s t : Machine) (rip : s.cpu.rip ≡ a)
+    (st : Stand lay places.fragment xm wm s t) (clear : StepClear lay.added dec s) where
+  abbrev Led : Type 0
+  Led = Follows dec lay (leads (has_node ts) places.fragment lay.stub a) (site_steps (length ts)) (step dec s) t
+
+  module _ (rest : ℕ → List Item) (most : ℕ) (room : 8 + most ≤ site_steps (length ts)) (begins : Begins dec lay places own wm rest) (leads_to : LeadsOn dec lay places own wm scratch a most ts rest) where
+    by_kind : (y : Insn) → IsTrue (is_site (kind_of y)) → InsnAt dec xm a y n
+        → ItemsFrom dec wm (label_at lay places own) own 0 (places.fragment a) (load_value scratch n y ++ rest (length (load_value scratch n y))) → Led
+    by_kind (insn.Ret bytes) is here items = by_return dec lay places own xm wm scratch a n ts site.scratch_low rest most (site_steps (length ts)) room begins leads_to page s t rip st bytes here clear items
+    by_kind (insn.JmpInd src) is here items = by_jump dec lay places own xm wm scratch a n ts site.scratch_low rest most (site_steps (length ts)) room begins leads_to page s t rip st src here clear items
+    by_kind (insn.CallInd src) is here items = by_call dec lay places own xm wm scratch a n ts site.scratch_low rest most (site_steps (length ts)) room begins leads_to page s t rip st src here clear items
+    by_kind y is here items = cc
+
+  either : (b : Bool) → nat_le (length ts) 32 ≡ b
+      → ItemsFrom dec wm (label_at lay places own) own 0 (places.fragment a) (load_value scratch n x ++ (if b then check scratch a (length (load_value scratch n x)) 0 ts else look_up scratch a)) → Led
+  either true short items =
+      by_kind (λ first. check scratch a first 0 ts) (2 + 4 * length ts) (few_steps (length ts) (leb-true (length ts) 32 short))
+      (λ k p j i h. before_check dec lay places own wm scratch a (omega (arith, site.scratch_low)) k p j 0 i ts h)
+      (λ u t' m saved k p v fits h. checked dec lay places own wm scratch a (omega (arith, site.scratch_low)) u t' m saved ts k p v fits site.targets_low h)
+      x site.kind old items
+  either false long items =
+      by_kind (λ first. look_up scratch a) (2 + lookup_steps (binary_digits (length ts))) (omega arith)
+      (λ k p j i h. stands dec lay places own wm k p i (item.Store (scratch + 16) (label.Table a)) (jump label.Routine ∷ []) h)
+      (λ u t' m saved k p v fits h. routed dec lay places own wm scratch a ts site.scratch_low site.few page has u t' m saved v fits k p h)
+      x site.kind old items
+
 -- the law
 pub sites_simulate : (dec : Decoder) → SitesSimulate dec
 unfolding Simulates
-sites_simulate dec scratch ts a n x site lay place own xm wm old items inside page s t rip st clear = go x site.kind old items
-  where
-    go : (y : Insn) → IsTrue (is_site (kind_of y)) → InsnAt dec xm a y n → ItemsFrom dec wm (label_at lay place own) own 0 (place a) (site_items scratch ts a n y) → Follows dec lay (leads (has_node ts) place lay.stub a) (16 + 4 * length ts) (step dec s) t
-    go (insn.Ret bytes) is old items = by_return dec lay place own xm wm scratch a n ts site.scratch_low site.targets_low page s t rip st bytes old clear items
-    go (insn.JmpInd src) is old items = by_jump dec lay place own xm wm scratch a n ts site.scratch_low site.targets_low page s t rip st src old clear items
-    go (insn.CallInd src) is old items = by_call dec lay place own xm wm scratch a n ts site.scratch_low site.targets_low page s t rip st src old clear items
-    go y is old items = cc
+sites_simulate dec scratch ts a n x site lay places own xm wm old items inside page has s t rip st clear =
+    either dec scratch ts a n x site lay places own xm wm old page (has site.kind) s t rip st clear (nat_le (length ts) 32) refl items

@@ -1,6 +1,7 @@
 -- What the items of a site take: each has a spelling wherever they end below 2^31.
-use Rattle.std.proofs.Common.{◌≡◌, ℕ, zero, suc, ◌+◌, ◌*◌, ◌%◌, ◌^◌, ◌<◌, ◌≤◌, Bool, true, false, if◌then◌else◌, nat_le, List, [], ◌∷◌, ◌++◌, length, take, Option, Some, None, IsTrue, IsSome, IsSomeAnd, refl, sym, ap, ◌∙◌, subst, arith, append_assoc, le-leb, lt-ltb}
+use Rattle.std.proofs.Common.{◌≡◌, ℕ, zero, suc, ◌+◌, ◌*◌, ◌%◌, ◌^◌, ◌<◌, ◌≤◌, Bool, true, false, if◌then◌else◌, nat_le, nat_lt, List, [], ◌∷◌, ◌++◌, length, take, Option, Some, None, IsTrue, IsSome, IsSomeAnd, refl, sym, ap, ◌∙◌, subst, arith, append_assoc, le-leb, lt-ltb}
 use Rattle.std.specs.List.{AllByRecursion}
+use Rattle.std.specs.Option.{option_map}
 use Rattle.std.specs.Prelude.{ℤ, pos, negsuc, ◌-ℤ◌}
 use Rattle.std.proofs.Math.Seq.{take-append-add, take-append_seam}
 use Rattle.std.proofs.lemmas.Int.{ints}
@@ -25,7 +26,7 @@ use Rattle.rz_isa.specs.Emitted.{HasSpelling, Emits, fits_8, place_len, register
 use Rattle.rz_isa.specs.Fields.{build_op}
 use Rattle.rz_isa.specs.Having.{is_disp}
 use Rattle.rz_isa.specs.Insn.{target_of, rip_of}
-use Rattle.rz_isa.specs.Items.{Addresses, absolute}
+use Rattle.rz_isa.specs.Items.{Addresses, absolute, store}
 use Rattle.rz_isa.specs.Plan.{spelled_len, IsPlaced}
 use Rattle.rz_isa.specs.Sizes.{CanMove, OfLabel, IsLow, IsOneOf, AllPlaced, near_len, near_address}
 use Rattle.rz_isa.specs.Spells.{Spells}
@@ -33,7 +34,7 @@ use Rattle.rz_isa.specs.Targets.{NamesLow, IndirectOperands}
 use Rattle.rz_isa.specs.Within.{SpelledWithin}
 use Rattle.rz_isa.specs.Laws.NearItems.{near_low, low_fits, whole_item, jump_item, count_item}
 use Rattle.rz_encode.specs.Length.{chosen_len, ChosenLengths}
-use Rattle.rz_machine.specs.Sequence.{save_at, load, load_at, add_to, jump, drop, load_value, piece, check}
+use Rattle.rz_machine.specs.Sequence.{save_at, load, load_at, add_to, jump, drop, load_value, piece, check, look_up, dispatch}
 use Rattle.rz_sites.specs.Site.{SitesAreSized}
 
 -- ---- displacements
@@ -275,6 +276,30 @@ module _ (rows : List Row) (emits : Emits rows) (within : SpelledWithin rows) (i
         behind : from + near_len rows (front ++ mid) ≡ p + l1 + 2 + 5 + l4 + 5
         behind = omega (arith, sum)
 
+  -- ---- the lookup
+
+  -- a label's address goes to a low word
+  store_item : (at : Addresses) (from a : ℕ) (to : Label) → a < 2 ^ 31 → IsSomeAnd (at to) (λ p. p < 2 ^ 31) → IsPlaced rows at from (item.Store a to) Near
+  store_item at from a to low is = record { reach = tt; spelled = where_low (nat_lt a (2 ^ 31)) (lt-ltb a (2 ^ 31) low) (go (at to) is) }
+    where
+      Spelled : Option Insn → Type 0
+      Spelled o = IsSomeAnd o (λ x. HasSpelling rows x from Near 12)
+
+      go : (o : Option ℕ) → IsSomeAnd o (λ p. p < 2 ^ 31) → Spelled (option_map (store a) o)
+      go None h = absurd h
+      go (Some n) h = emits.store_imm n from (absolute a) (low_fits n h) (low_disp a low)
+
+      where_low : (b : Bool) → b ≡ true → Spelled (option_map (store a) (at to)) → Spelled (if b then option_map (store a) (at to) else None)
+      where_low true e h = h
+      where_low false e h = cc
+
+  look_up_placed : (scratch a from : ℕ) (at names : Addresses) → scratch + 16 < 2 ^ 31 → names (label.Table a) ≡ at (label.Table a) → names label.Routine ≡ at label.Routine
+      → AllByRecursion (OfLabel (IsLow at)) (look_up scratch a) → from + near_len rows (look_up scratch a) < 2 ^ 31 → AllPlaced rows names from (look_up scratch a)
+  look_up_placed scratch a from at names page table routine low fits = (
+    store_item names from (scratch + 16) (label.Table a) page (subst (λ o. IsSomeAnd o (λ p. p < 2 ^ 31)) (sym table) low.0),
+    (jump_item rows emits names (from + 12) label.Routine (subst (λ o. IsSomeAnd o (λ p. p < 2 ^ 31)) (sym routine) low.1.0) (omega (arith, fits)), tt),
+  )
+
   -- ---- a site
 
   spelled_low : (n : ℕ) (bytes : List ℕ) (b : ℕ) → Spells rows bytes b (insn.Ret n) → n < 2 ^ 16
@@ -313,31 +338,60 @@ module _ (rows : List Row) (emits : Emits rows) (within : SpelledWithin rows) (i
     head_count (insn.CallInd src) = omega arith
     head_count _ = omega arith
 
+  -- items behind the head of a site: they can stand, and take at most so many bytes
+  record IsTail (head tail : List Item) (room : ℕ) : Type 0 where
+    can_move : AllByRecursion CanMove tail
+    own : AllByRecursion (OfLabel (IsOneOf (length (head ++ tail)))) tail
+    few : near_len rows tail ≤ room
+    placed : (at : Addresses) (from : ℕ) → AllByRecursion (OfLabel (IsLow at)) tail → from + near_len rows head + near_len rows tail < 2 ^ 31
+        → AllPlaced rows (near_address rows (head ++ tail) from at) (from + near_len rows head) tail
+
+  check_tail : (scratch a : ℕ) (head : List Item) (ts : List ℕ) → scratch + 16 < 2 ^ 31 → AllByRecursion (λ t. t < 2 ^ 31) ts → IsTail head (check scratch a (length head) 0 ts) (20 + 42 * length ts)
+  check_tail scratch a head ts low all =
+      let page : scratch < 2 ^ 31 = omega (arith, low) in
+      let tail = check scratch a (length head) 0 ts in
+      let sum = length-append head tail in
+      let count = check_count scratch a page (length head) 0 ts in
+      record {
+        can_move = check_moves scratch a page (length head) 0 ts (omega arith) all;
+        own = check_own scratch a page (length (head ++ tail)) (length head) 0 ts (omega (arith, sum, count));
+        few = check_len scratch a page (length head) 0 ts;
+        placed = λ at from names fits. check_placed scratch a page (head ++ tail) head from at (length head) 0 ts refl refl (omega arith) all names fits;
+      }
+
+  look_up_tail : (scratch a : ℕ) (head : List Item) (c : ℕ) → scratch + 16 < 2 ^ 31 → IsTail head (look_up scratch a) (20 + 42 * c)
+  look_up_tail scratch a head c low =
+      record {
+        can_move = (tt, (refl, tt));
+        own = (tt, (tt, tt));
+        few = omega arith;
+        placed = λ at from names fits. look_up_placed scratch a (from + near_len rows head) at (near_address rows (head ++ look_up scratch a) from at) low refl refl names (omega (arith, fits));
+      }
+
+  by_count : (scratch a : ℕ) (head : List Item) (ts : List ℕ) (b : Bool) → scratch + 16 < 2 ^ 31 → AllByRecursion (λ t. t < 2 ^ 31) ts
+      → IsTail head (if b then check scratch a (length head) 0 ts else look_up scratch a) (20 + 42 * length ts)
+  by_count scratch a head ts true low all = check_tail scratch a head ts low all
+  by_count scratch a head ts false low all = look_up_tail scratch a head (length ts) low
+
   pub sites_are_sized : SitesAreSized rows
   sites_are_sized scratch ts a n bytes b x spells site names =
       record {
-        can_move = whole_moves head tail whole (check_moves scratch a page (length head) 0 ts (omega arith) site.targets_low);
-        own = whole_own (IsOneOf (length (head ++ tail))) head tail whole (check_own scratch a page (length (head ++ tail)) (length head) 0 ts (omega (arith, all, few)));
-        few = let e = len_append rows head tail in let f = whole_len head whole in let g = check_len scratch a page (length head) 0 ts in let k = head_count scratch n site.scratch_low site.next_low bytes b x in omega (arith, e, f, g, k);
+        can_move = whole_moves head tail whole is.can_move;
+        own = whole_own (IsOneOf (length (head ++ tail))) head tail whole is.own;
+        few = let e = len_append rows head tail in let f = whole_len head whole in let g = is.few in let k = head_count scratch n site.scratch_low site.next_low bytes b x in omega (arith, e, f, g, k);
         placed = λ at from low fits. let e = len_append rows head tail in
             whole_placed (near_address rows (head ++ tail) from at) from head tail whole (omega (arith, e, fits))
-            (check_placed scratch a page (head ++ tail) head from at (length head) 0 ts refl refl (omega arith) site.targets_low (all_later rows (OfLabel (IsLow at)) head tail low) (omega (arith, e, fits)));
+            (is.placed at from (all_later rows (OfLabel (IsLow at)) head tail low) (omega (arith, e, fits)));
       }
     where
       head : List Item
       head = load_value scratch n x
 
       tail : List Item
-      tail = check scratch a (length (load_value scratch n x)) 0 ts
-
-      page : scratch < 2 ^ 31
-      page = omega (arith, site.scratch_low)
+      tail = dispatch scratch a (length (load_value scratch n x)) ts
 
       whole : AllByRecursion IsWhole (load_value scratch n x)
       whole = head_whole scratch n site.scratch_low site.next_low bytes b x spells names
 
-      all : length (head ++ tail) ≡ length head + length tail
-      all = length-append head tail
-
-      few : length tail ≡ 2 + 5 * length ts
-      few = check_count scratch a page (length head) 0 ts
+      is : IsTail head tail (20 + 42 * length ts)
+      is = by_count scratch a head ts (nat_le (length ts) 32) site.scratch_low site.targets_low

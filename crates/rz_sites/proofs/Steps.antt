@@ -13,7 +13,7 @@ use Rattle.rz_isa.specs.declared.instruction.Place.{Place}
 use Rattle.rz_isa.specs.declared.instruction.Place.TheVariants as place
 use Rattle.rz_isa.specs.declared.instruction.Operand.TheVariants as operand
 use Rattle.rz_isa.specs.Emitted.{register}
-use Rattle.rz_isa.specs.Items.{absolute}
+use Rattle.rz_isa.specs.Items.{absolute, store}
 use Rattle.rz_image.specs.Memory.{Regions, refused, is_writable, put_bytes}
 use Rattle.rz_exec.specs.Form.{NewValues, Exception, allowed, read_word, after_write, after_first, carry}
 use Rattle.rz_exec.specs.Operands.{address, word_of, value_of}
@@ -46,6 +46,16 @@ save_is a next t regs flags p m low open' =
     let v : NewValues = record { regs = regs; flags = flags; word = get_or regs 1 0 % 2 ^ 64 } in
     let P : ℕ → Machine = λ x. after_effect (after_write regs flags m v (allowed (refused is_writable m x 8) (put_bytes m x (little_bytes 8 v.word)))) next (now t regs flags p m) in
     let Q : Option ℕ → Machine = λ o. after_effect (after_write regs flags m v (allowed o (put_bytes m a (little_bytes 8 v.word)))) next (now t regs flags p m) in
+    ap P (absolute_is regs a low) ∙ ap Q open'
+
+-- a number is stored
+pub store_is : (a v next : ℕ) (t : Machine) (regs : List ℕ) (flags : Flags) (p : ℕ) (m : Regions) → a < 2 ^ 31 → refused is_writable m a 8 ≡ None
+    → perform (store a v) next (now t regs flags p m) ≡ now t regs flags next (put_bytes m a (little_bytes 8 v))
+unfolding carry plain_effect
+store_is a v next t regs flags p m low open' =
+    let r : NewValues = record { regs = regs; flags = flags; word = v } in
+    let P : ℕ → Machine = λ x. after_effect (after_write regs flags m r (allowed (refused is_writable m x 8) (put_bytes m x (little_bytes 8 v)))) next (now t regs flags p m) in
+    let Q : Option ℕ → Machine = λ o. after_effect (after_write regs flags m r (allowed o (put_bytes m a (little_bytes 8 v)))) next (now t regs flags p m) in
     ap P (absolute_is regs a low) ∙ ap Q open'
 
 -- by what the operand's read gives

@@ -1,11 +1,11 @@
 //! The items of each kept instruction that is a site.
 
-ghost use Rattle.std.specs.Prelude.{◌≡◌, ◌+◌, ◌^◌, ◌<◌, length, IfOk};
+ghost use Rattle.std.specs.Prelude.{◌≡◌, ◌+◌, ◌^◌, ◌<◌, IfOk};
 ghost use Rattle.rz_isa.specs.Decoded.{decoded};
 ghost use Rattle.rz_machine.specs.Sequence.{site_items, load_value as load_value_of};
 ghost use Rattle.rz_sites.specs.Site.{IsSite, SimulatesSite, IsSizedSite};
 
-use crate::check::push_check;
+use crate::dispatch::push_dispatch;
 use crate::laws::{sites_are_sized, sites_simulate};
 use crate::moves::{RSP, add_to, load, load_at, rcx, save_at};
 use rz_isa::{Insn, InsnTable, Item, Items, Operand};
@@ -14,9 +14,10 @@ use std::alloc::Global;
 
 /// The items of a return, an indirect call or an indirect jump at the address `at`, which has `len` bytes: they go to
 /// where it leads, if that is one of the targets, and else to the stub of `at`; the whole sequence, with its last jump.
-/// An indirect call pushes the original's next address. They take one to 16 steps and four more for each target, and at
-/// most 192 bytes and 48 more for each. The next address and the targets are below 2^31, and the targets are fewer than
-/// 2^28; `scratch` is the address of the scratch page, whose first two words are used.
+/// An indirect call pushes the original's next address. Up to 32 targets are tried in turn; more are looked up by the
+/// lookup routine in the table of `at`. They take one to 64 steps and 16 more for each binary digit of the number of
+/// targets, and at most 128 bytes and 48 more for each target. The next address and the targets are below 2^31, and the
+/// targets are fewer than 2^28; `scratch` is the address of the scratch page, whose first three words are used.
 /// It refuses for want of memory alone.
 pub fn site<T: InsnTable>(
     alloc: Global,
@@ -27,7 +28,6 @@ pub fn site<T: InsnTable>(
     scratch: u64,
 ) -> Result<Items, OutOfMemory>
     requires site { IsSite scratch targets.now (at + len) insn.now }
-    requires few { length targets.now < 2 ^ 28 }
     ensures value { IfOk result (λ items. items ≡ site_items scratch targets.now at (at + len) insn.now) }
     ensures simulates { IfOk result (λ items.
         SimulatesSite (decoded T.rows) scratch targets.now at (at + len) insn.now items) }
@@ -36,7 +36,7 @@ pub fn site<T: InsnTable>(
     sites_simulate::<T>();
     sites_are_sized::<T>();
     let mut items = load_value(alloc, scratch, at + len as u64, insn)?;
-    push_check(&mut items, scratch, at, targets)?;
+    push_dispatch(&mut items, scratch, at, targets)?;
     Ok(items)
 }
 

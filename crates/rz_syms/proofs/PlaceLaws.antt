@@ -15,7 +15,8 @@ use Rattle.rz_syms.specs.Symbols.{symbol_of, symbols_in, names_function, is_defi
 use Rattle.rz_syms.specs.Calls.Ordered.{AreOrdered}
 use Rattle.rz_syms.specs.Calls.Placed.{place_of}
 use Rattle.rz_syms.proofs.SymbolLaws.{symbols_from, symbols_turn, symbols_first, symbols_end}
-use Rattle.rz_syms.proofs.Ascending.{is_same_symbol, place_total, place_exact, strict, all_with_all}
+use Rattle.rz_aset.specs.Laws.Sorted.{strict}
+use Rattle.rz_syms.proofs.Ascending.{is_same_symbol, place_total, place_exact, all_with_all}
 
 -- ---- one by one
 
@@ -141,4 +142,4 @@ pub ascending_ordered : (loads : List Load) (table : List ℕ) (n : ℕ) (ss : L
 unfolding ascending
 ascending_ordered loads table n ss =
     let ps = places_from loads table n ss in
-    ordered (fold (insert_key place_cmp) [] ps) (all_with_all place_cmp place_total place_exact IsSized [] ps tt (places_sized loads table n ss)) (strict place_cmp place_total place_exact ps)
+    ordered (fold (insert_key place_cmp) [] ps) (all_with_all place_cmp IsSized [] ps tt (places_sized loads table n ss)) (strict place_cmp place_total place_exact ps)

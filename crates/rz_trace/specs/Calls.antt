@@ -1,3 +1,4 @@
 pub mod Begun
+pub mod Followed
 pub mod Memo
 pub mod Printing

@@ -1,6 +1,6 @@
 // What runs used: the addresses of the instructions that they began, and the pairs of neighbours.
 
-ghost use Rattle.std.specs.Prelude.{◌≡◌, None, OnOk, OnErr, IfErr};
+ghost use Rattle.std.specs.Prelude.{◌≡◌, OnOk, OnErr, IfErr};
 ghost use Rattle.rz_isa.specs.Decoded.{decoded};
 ghost use Rattle.rz_machine.specs.LeftCode.{left_at, StaysInCode};
 ghost use Rattle.rz_machine.specs.Traced.{with_run, kept_in};
@@ -16,12 +16,13 @@ use crate::memo::Memo;
 use rz_aset::Record;
 use rz_elf::elf::Elf;
 use rz_isa::InsnTable;
-use rz_machine::cache::DecodeCache;
 use rz_machine::machine::{End, Machine};
+use rz_machine::runs::Observer;
 use rz_machine::start::start;
 use rz_num::OutOfMemory;
 use rz_sys::input::Input;
 use std::alloc::Global;
+use std::mem;
 use thiserror::Error;
 
 /// Why a run wasn't traced to its limit. `LeftCode` has the address that the run came to, where no instruction of the
@@ -108,11 +109,11 @@ fn add_with(
     last: Option<u64>,
     at: u64,
 ) -> Result<(), OutOfMemory>
-    requires { Knows (kept_in rec.old) memo.old }
-    ensures ok { OnOk result (kept_in rec.new ≡ with_begun (kept_in rec.old) last at) }
+    ensures ok { Knows (kept_in rec.old) memo.old
+        → OnOk result (kept_in rec.new ≡ with_begun (kept_in rec.old) last at) }
+    ensures knows { Knows (kept_in rec.old) memo.old → OnOk result (Knows (kept_in rec.new) memo.new) }
     ensures edges { OnErr result (rec.new.edges ≡ rec.old.edges) }
     ensures nodes { OnErr result (IsSameOrWith at rec.old.nodes rec.new.nodes) }
-    ensures knows { OnOk result (Knows (kept_in rec.new) memo.new) }
 {
     let Some(from) = last else {
         add(rec, None, at)?;
@@ -126,6 +127,42 @@ fn add_with(
     Ok(())
 }
 
+// The observer that records what a run begins: the record, a memo of its edges, and the instruction begun last.
+#[derive(Drop)]
+struct Tracer {
+    rec: Record,
+    memo: Memo,
+    last: Option<u64>,
+}
+
+impl Observer for Tracer {
+    ghost use Rattle.rz_machine.specs.Until.{has_ended};
+    ghost use Rattle.rz_machine.specs.Traced.{kept_in};
+    ghost use Rattle.rz_trace.specs.Traced.{HasPart};
+    ghost use Rattle.rz_trace.specs.Calls.Followed.{Followed};
+
+    ghost stops_at = { λ _ s. has_ended s };
+
+    ghost Follows = { λ first dec s steps o.
+        Followed dec steps s (kept_in first.rec) (kept_in o.rec) o.memo o.last };
+
+    ghost Misses = { λ first dec s steps o. HasPart dec steps s (kept_in first.rec) (kept_in o.rec) };
+
+    #[inline(always)]
+    fn stops(&self, machine: &Machine) -> bool {
+        machine.end.is_some()
+    }
+
+    #[inline(always)]
+    fn sees(&mut self, alloc: Global, at: u64, machine: &Machine) -> Result<(), OutOfMemory> {
+        if address_left(machine.end).is_none() {
+            add_with(alloc, &mut self.memo, &mut self.rec, self.last, at)?;
+            self.last = Some(at);
+        }
+        Ok(())
+    }
+}
+
 // Adds the nodes and the edges of the first `limit` steps of a machine.
 fn follow<T: InsnTable>(
     alloc: Global,
@@ -133,27 +170,22 @@ fn follow<T: InsnTable>(
     limit: u64,
     rec: &mut Record,
 ) -> Result<(), TraceRefusal>
-    requires { left_at machine.old.end ≡ None }
     ensures ok { OnOk result
         (kept_in rec.new ≡ with_run (decoded T.rows) limit machine.old (kept_in rec.old)) }
     ensures stays { OnOk result (StaysInCode (decoded T.rows) limit machine.old) }
     ensures err { IfErr result
         (IsRefused (decoded T.rows) limit machine.old (kept_in rec.old) (kept_in rec.new)) }
 {
-    let mut cache = DecodeCache::new::<T>(alloc, &machine.mem);
-    let mut memo = Memo::new(alloc);
-    let mut last = None;
-    for _ in 0..limit {
-        if machine.end.is_some() {
-            return Ok(());
-        }
-        let at = machine.cpu.rip;
-        machine.step_with::<T>(alloc, &mut cache)?;
-        if let Some(left) = address_left(machine.end) {
-            return Err(TraceRefusal::LeftCode(left));
-        }
-        add_with(alloc, &mut memo, rec, last, at)?;
-        last = Some(at);
+    let mut tracer = Tracer {
+        rec: mem::replace(rec, Record::new(alloc)),
+        memo: Memo::new(alloc),
+        last: None,
+    };
+    let ran = machine.observe::<T, Tracer>(alloc, limit, &mut tracer);
+    *rec = tracer.rec;
+    ran?;
+    match address_left(machine.end) {
+        Some(left) => Err(TraceRefusal::LeftCode(left)),
+        None => Ok(()),
     }
-    Ok(())
 }

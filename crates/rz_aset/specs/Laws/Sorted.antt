@@ -189,7 +189,7 @@ module _ {K : Type 0} (cmp : K → K → Ordering) (total : IsTotalOrder cmp) (e
   strict_with_all set [] h = h
   strict_with_all set (x ∷ xs) h = strict_with_all (insert_key cmp set x) xs (strict_with set x h)
 
-  strict : (xs : List K) → IsStrictlySortedBy cmp (fold (insert_key cmp) [] xs)
+  pub strict : (xs : List K) → IsStrictlySortedBy cmp (fold (insert_key cmp) [] xs)
   unfolding IsStrictlySortedBy
   strict xs = strict_with_all [] xs tt
 
@@ -222,6 +222,12 @@ module _ {K : Type 0} (cmp : K → K → Ordering) (total : IsTotalOrder cmp) (e
       btree_set_from_contains total a b s (strict xs)
       (λ q. sym (list_any-IsPermutation _ xs ys p) ∙ sym (list_any-insert_keys cmp exact _ [] xs)) exact
 
+  -- a sort of distinct members is the list that inserting each of them makes
+  pub sort_of_distinct : (eq : K → K → Bool) → ((x y : K) → eq x y ≡ false → cmp x y ≡ Equal → ⊥) → ((x y : K) → eq x y ≡ eq y x) → (xs ys : List K)
+      → IsDistinct eq xs → IsPermutation xs ys → IsSorted cmp ys → ys ≡ fold (insert_key cmp) [] xs
+  sort_of_distinct eq apart flips xs ys d p s =
+      sort_is xs ys p (strict_from_sort eq apart ys s (IsDistinct-IsPermutation eq flips xs ys p d))
+
 address_apart : (x y : ℕ) → nat_eq x y ≡ false → nat_cmp x y ≡ Equal → ⊥
 address_apart x y h e = let same = exact_unsigned x y e in cc (h, eq-eqb x y same)
 
@@ -229,8 +235,7 @@ address_apart x y h e = let same = exact_unsigned x y e in cc (h, eq-eqb x y sam
 pub sorted_by_sort : (xs ys : List ℕ) → IsDistinct nat_eq xs → IsPermutation xs ys → IsSorted nat_cmp ys → ys ≡ sorted xs
 unfolding sorted
 sorted_by_sort xs ys d p s =
-    sort_is nat_cmp nat_cmp_total exact_unsigned xs ys p
-    (strict_from_sort nat_cmp nat_cmp_total exact_unsigned nat_eq address_apart ys s (IsDistinct-IsPermutation nat_eq flips xs ys p d))
+    sort_of_distinct nat_cmp nat_cmp_total exact_unsigned nat_eq address_apart flips xs ys d p s
   where
     flips : (x y : ℕ) → nat_eq x y ≡ nat_eq y x
     flips x y = grind arith
@@ -249,8 +254,7 @@ edge_apart x y h e =
 pub sorted_edges_by_sort : (xs ys : List (ℕ × ℕ)) → IsDistinct is_same_edge xs → IsPermutation xs ys → IsSorted edge_cmp ys → ys ≡ sorted_edges xs
 unfolding sorted_edges
 sorted_edges_by_sort xs ys d p s =
-    sort_is edge_cmp edge_total edge_exact xs ys p
-    (strict_from_sort edge_cmp edge_total edge_exact is_same_edge edge_apart ys s (IsDistinct-IsPermutation is_same_edge flips xs ys p d))
+    sort_of_distinct edge_cmp edge_total edge_exact is_same_edge edge_apart flips xs ys d p s
   where
     each : (a b : ℕ) → (a == b) ≡ (b == a)
     each a b = grind arith

@@ -3,7 +3,7 @@ use Rattle.std.specs.Prelude.{ℕ, List, [], ◌∷◌, ◌++◌, decimal}
 use Rattle.rz_num.specs.Texts.{hex_text}
 use Rattle.rz_core.specs.declared.status.Said.{Said}
 use Rattle.rz_core.specs.declared.status.Said.TheVariants as said
-use Rattle.rz_core.specs.Texts.{fault_text, room_text}
+use Rattle.rz_elf.specs.Texts.{fault_text, room_text}
 
 -- a line of words, and of what stands behind them
 abbrev line_of : List ℕ → List ℕ → List ℕ

@@ -154,7 +154,7 @@ nop_met m o n h1 = grind (arith, nat_tests)
 pub least_place_b : (r : Option RmRule) → place_b (least_place r) ≡ 0
 least_place_b r = grind (arith, nat_tests)
 
-least_b : (row : Row) → b_needed row (least row) ≡ 0
+pub least_b : (row : Row) → b_needed row (least row) ≡ 0
 least_b row = grind (arith, nat_tests)
 
 -- the exchange with the accumulator takes its register from the opcode
@@ -165,10 +165,17 @@ exchange_met row f g op h1 h2 h3 = grind (arith, nat_tests)
 -- ---- what builds an instruction is found again
 
 -- what is found lies below, or is the least where the operation names nothing
+abbrev pub Lesser : Op → Row → Fields → Fields → Type 0
+Lesser op row g f = Below row g f ⊎ ((g ≡ least row) × (op ≡ ops.Nop))
+
+pub rm_lesser : (op : Op) (row : Row) (g f : Fields) → Lesser op row g f → (g.rm ≡ f.rm) ⊎ (g.rm ≡ least_place row.rm)
+rm_lesser op row g f (inl b) = b.rm
+rm_lesser op row g f (inr l) = inr (ap (λ (k : Fields). k.rm) l.0)
+
 pub record Again (op : Op) (row : Row) (f : Fields) : Type 0 where
   pub g : Fields
   pub found : found_in op (build_op op f) (least row) ≡ Some g
-  pub below : Below row g f ⊎ (g ≡ least row)
+  pub below : Lesser op row g f
   pub b : is_met (b_demand op row.map (opcode_of row g)) (b_needed row g) ≡ true
 
 pub record Asked (op : Op) (row : Row) (f : Fields) : Type 0 where
@@ -233,7 +240,7 @@ again (ops.JmpInd s) row f h = free _ row f (λ m k n. refl) (place_again row s 
 again ops.Ret row f h = free _ row f (λ m k n. refl) (stays row f _ (imm_below row f (least row) (f.imm % 2 ^ 16) (cut16 f.imm h.small) (alone row f h.single h.w)))
 again ops.Convert row f h = free _ row f (λ m k n. refl) (stays row f _ (width_below row f))
 again ops.SignFill row f h = free _ row f (λ m k n. refl) (stays row f _ (width_below row f))
-again ops.Nop row f h = record { g = least row; found = refl; below = inr refl; b = nop_met row.map (opcode_of row (least row)) (b_needed row (least row)) (least_b row) }
+again ops.Nop row f h = record { g = least row; found = refl; below = inr (refl, refl); b = nop_met row.map (opcode_of row (least row)) (b_needed row (least row)) (least_b row) }
 again (ops.Bswap d) row f h = free _ row f (λ m k n. refl) (number_again row d f _ (h.number refl) (width_below row f))
 again (ops.BitTest o d i) row f h = free _ row f (λ m k n. refl) (same row f (same_bit o o) _ (grind arith) (both_again row f _ _ (place_again row d f _ (width_below row f)) (λ m k. index_again row i f m h.small (h.number refl) k)))
 again (ops.Scan o d s) row f h = free _ row f (λ m k n. refl) (same row f (same_scan o o) _ (grind arith) (number_place_again row d s f _ (h.number refl) (width_below row f)))

@@ -13,7 +13,7 @@ use Rattle.rz_isa.specs.Spells.{next_address, RowSpells, CanHave, Builds, NoneBu
 use Rattle.rz_isa.specs.Canonical.{rm_bytes, imm_value, parts_for, reaches, length_for, same_form, Chosen, or_chosen, chosen_by, spelled_at}
 use Rattle.rz_isa.specs.Table.{SpelledSomewhere, IsCanonicalRow, OneCanonicalRow, HasChosen, CanonicalSpells}
 use Rattle.rz_isa.specs.Laws.Exclusion.{list_all_get}
-use Rattle.rz_isa.specs.Laws.Inverse.{builds_found}
+use Rattle.rz_isa.specs.Laws.Inverse.{found_again}
 use Rattle.rz_isa.specs.Laws.Inverse as inverse
 use Rattle.rz_isa.specs.Laws.Read.{little_length}
 use Rattle.rz_isa.specs.Laws.Whole.{can_is, is_can, length_of, spelled_for, parts_read}
@@ -26,8 +26,8 @@ found_builds row x g regular e = (let t = inverse.found_builds row x g regular e
 
 pub none_builds : (row : Row) (x : Insn) → is_regular row ≡ true → found row x ≡ None → NoneBuilds row x
 none_builds row x regular none f b =
-    let g = builds_found row f regular (is_can row f regular b.had) in
-    none_some g.0 (sym none ∙ (ap (found row) (sym b.built) ∙ g.1))
+    let g = found_again row f regular (is_can row f regular b.had) in
+    none_some g.g (sym none ∙ (ap (found row) (sym b.built) ∙ g.found))
 
 -- ---- a row spells an instruction somewhere where its fields are found
 
@@ -38,8 +38,8 @@ pub somewhere_found : (row : Row) (x : Insn) → is_regular row ≡ true → Spe
 somewhere_found row x regular h =
     let next = next_address h.at h.bytes in
     let can : CanHave row (fields row h.by_row.parts next) = record { next = next; next_low = address_low (h.at + length h.bytes); bytes = h.bytes; parts = h.by_row.parts; spelled = h.by_row.spelled; same = refl } in
-    let g = builds_found row (fields row h.by_row.parts next) regular (is_can row (fields row h.by_row.parts next) regular can) in
-    ap (λ k. is_some (found row k)) h.by_row.names ∙ ap is_some g.1
+    let g = found_again row (fields row h.by_row.parts next) regular (is_can row (fields row h.by_row.parts next) regular can) in
+    ap (λ k. is_some (found row k)) h.by_row.names ∙ ap is_some g.found
 
 -- the address from which bytes end at the next
 back : (next n : ℕ) → next < 2 ^ 64 → n ≤ 15 → ((next + (2 ^ 64 - n)) % 2 ^ 64 + n) % 2 ^ 64 ≡ next

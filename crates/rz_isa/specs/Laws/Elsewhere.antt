@@ -16,7 +16,7 @@ use Rattle.rz_isa.specs.Suited.{is_displacement, form_suits, is_suited}
 use Rattle.rz_isa.specs.Spells.{next_address}
 use Rattle.rz_isa.specs.Canonical.{offset, parts_for, place_reaches, imm_reaches, reaches, length_for, Chosen, chosen, spelled_at}
 use Rattle.rz_isa.specs.Targets.{IgnoresPlace, NamesLow, SpelledElsewhere}
-use Rattle.rz_isa.specs.Laws.Again.{Below, had_of, least_place_b, again}
+use Rattle.rz_isa.specs.Laws.Again.{Lesser, rm_lesser, had_of, least_place_b, again}
 use Rattle.rz_isa.specs.Laws.Lesser.{numbered}
 use Rattle.rz_isa.specs.Laws.Inverse.{regular_of, imm_small_of, exchange_place, narrow, found_builds}
 use Rattle.rz_isa.specs.Laws.Whole.{find_home, spelled_for}
@@ -57,8 +57,8 @@ not_least r a h1 = grind (arith, nat_tests)
 found_before : (row : Row) (x : Insn) (f : Fields) → found row x ≡ Some f → found_in row.op x (least row) ≡ Some f
 found_before row x f e = option_and_then_some (if_can row) (found_in row.op x (least row)) f e (λ m em eg. em ∙ ap Some (through (can_have row m) m f eg).1)
 
-place_of_least : (row : Row) (g f : Fields) → f.rm ≡ least_place row.rm → Below row g f ⊎ (g ≡ least row) → g.rm ≡ least_place row.rm
-place_of_least row g f h1 h2 = grind (arith, nat_tests)
+place_of_least : (row : Row) (g f : Fields) → f.rm ≡ least_place row.rm → Lesser row.op row g f → g.rm ≡ least_place row.rm
+place_of_least row g f h l = elim (rm_lesser row.op row g f l) [ inl e ↦ e ∙ h | inr e ↦ e ]
 
 pub unused_place : (row : Row) (x : Insn) (f : Fields) (a : ℕ) → is_regular row ≡ true → IgnoresPlace row.op → found row x ≡ Some f → f.rm ≡ places.At a → ⊥
 unused_place row x f a regular unused e at =

@@ -10,7 +10,7 @@ use Rattle.rz_isa.specs.Having.{has_imm, in_opcode, can_have}
 use Rattle.rz_isa.specs.Finding.{least, found_in, if_can, found}
 use Rattle.rz_isa.specs.Regular.{operands_apart, imm_suits, width_suits, stands_alone, is_exchange, names_number, is_byte_class, is_block, digit_small, rule_small, is_regular}
 use Rattle.rz_isa.specs.Laws.Built.{imm_small, built}
-use Rattle.rz_isa.specs.Laws.Again.{had_of, can_of, again}
+use Rattle.rz_isa.specs.Laws.Again.{Lesser, had_of, can_of, again}
 use Rattle.rz_isa.specs.Laws.Lesser.{numbered, found_had}
 use Rattle.rz_isa.specs.Laws.Tests.{through}
 
@@ -65,8 +65,13 @@ found_builds row x g reg e =
     let em2 : found_in row.op x (least row) ≡ Some g = em ∙ ap Some t.1 in
     record { had = had; built = built row.op x (least row) g r.operands (imm_small_of row.op row.imm g.w g.imm r.imm h.imm) em2 })
 
-pub builds_found : (row : Row) (f : Fields) → is_regular row ≡ true → can_have row f ≡ true → (g : Fields) × (found row (build_op row.op f) ≡ Some g)
-builds_found row f reg had =
+pub record FoundAgain (row : Row) (f : Fields) : Type 0 where
+  pub g : Fields
+  pub found : found row (build_op row.op f) ≡ Some g
+  pub below : Lesser row.op row g f
+
+pub found_again : (row : Row) (f : Fields) → is_regular row ≡ true → can_have row f ≡ true → FoundAgain row f
+found_again row f reg had =
     let r = regular_of row reg in
     let h = had_of row f had in
     let a = again row.op row f (record {
@@ -80,4 +85,4 @@ builds_found row f reg had =
       b = h.b;
     }) in
     let can = can_of row a.g (found_had row a.g f h a.below a.b) in
-    (a.g, ap (option_and_then (if_can row)) a.found ∙ ap (λ k. if k then Some a.g else None) can)
+    record { g = a.g; found = ap (option_and_then (if_can row)) a.found ∙ ap (λ k. if k then Some a.g else None) can; below = a.below }

@@ -1,14 +1,14 @@
 use Rattle.std.proofs.Common.{ℕ, ◌≡◌, ◌≤◌, ◌==◌, refl, ap, sym, ◌∙◌, subst, arith, Bool, true, false, not, ◌&&◌, ◌||◌, ◌⊎◌, inl, inr, Option}
 use Rattle.std.specs.Prelude.{nat_lt}
 use Rattle.std.proofs.lemmas.Bool.Decides.{nat_tests}
-use Rattle.rz_isa.specs.Laws.Types.{Width, F3Rule, RmRule, ImmKind, Row, Fields}
+use Rattle.rz_isa.specs.Laws.Types.{Width, F3Rule, Size, RmRule, ImmKind, Row, Op, Fields}
 use Rattle.rz_isa.specs.declared.instruction.Reg.TheVariants as regs
 use Rattle.rz_isa.specs.Spelling.{is_met, b_demand}
 use Rattle.rz_isa.specs.Fields.{rm_width}
-use Rattle.rz_isa.specs.Having.{has_width, is_register, is_first, is_high, is_low_byte, in_reg_field, in_opcode, has_reg, has_place, has_cond, has_imm, has_rep, b_needed, rex_needed, low_byte_place, high_place, bars_rex, needs_rex, opcode_of}
-use Rattle.rz_isa.specs.Finding.{least_place, least}
+use Rattle.rz_isa.specs.Having.{has_width, is_register, is_first, is_high, is_low_byte, in_reg_field, in_opcode, has_reg, has_place, has_cond, has_imm, has_rep, w_needed, r_needed, x_needed, b_needed, rex_needed, low_byte_place, high_place, bars_rex, needs_rex, opcode_of}
+use Rattle.rz_isa.specs.Finding.{least_width, least_place, least}
 use Rattle.rz_isa.specs.Regular.{is_byte_class}
-use Rattle.rz_isa.specs.Laws.Again.{Below, Numbered, Had}
+use Rattle.rz_isa.specs.Laws.Again.{Below, Lesser, Numbered, Had, least_b}
 use Rattle.rz_isa.specs.Laws.Tests.{never, if_both}
 
 -- Lesser fields can be had where the fields that they are below can.
@@ -73,17 +73,46 @@ not_and a b c d h1 h2 h3 = grind (arith, nat_tests)
 positive : (a b : ℕ) → a ≤ b → Kept (nat_lt 0 a) (nat_lt 0 b)
 positive a b h p = grind (arith, nat_tests)
 
-rex-had : (row : Row) (g f : Fields) → Had row f → Below row g f → not (bars_rex g && needs_rex row g) ≡ true
-rex-had row g f h b =
+-- where the lesser fields need a REX, the others do
+below_needs : (row : Row) (g f : Fields) → Below row g f → Kept (needs_rex row g) (needs_rex row f)
+below_needs row g f b =
     let v = rm_width row.op f.w in
-    let bars : Kept (bars_rex g) (bars_rex f) = or_kept _ _ _ _
-    (either_way (λ r. Kept (is_high r) (is_high f.reg)) g.reg f.reg (regs.R 0) b.reg (λ e. e) (false_kept _ _ refl))
-    (either_way (λ p. Kept (high_place p) (high_place f.rm)) g.rm f.rm (least_place row.rm) b.rm (λ e. e) (false_kept _ _ (least_high row.rm))) in
     let low : Kept (is_low_byte g.w g.reg) (is_low_byte f.w f.reg) = subst (λ w. Kept (is_low_byte w g.reg) (is_low_byte f.w f.reg)) (sym b.w)
     (either_way (λ r. Kept (is_low_byte f.w r) (is_low_byte f.w f.reg)) g.reg f.reg (regs.R 0) b.reg (λ e. e) (false_kept _ _ (first_low f.w))) in
     let place : Kept (low_byte_place (rm_width row.op g.w) g.rm) (low_byte_place v f.rm) = subst (λ w. Kept (low_byte_place (rm_width row.op w) g.rm) (low_byte_place v f.rm)) (sym b.w)
     (either_way (λ p. Kept (low_byte_place v p) (low_byte_place v f.rm)) g.rm f.rm (least_place row.rm) b.rm (λ e. e) (false_kept _ _ (least_low row.rm v))) in
-    not_and (bars_rex g) (needs_rex row g) (bars_rex f) (needs_rex row f) bars (or_kept _ _ _ _ (or_kept _ _ _ _ (positive _ _ (rex_less row g f b)) low) place) h.rex
+    or_kept _ _ _ _ (or_kept _ _ _ _ (positive _ _ (rex_less row g f b)) low) place
+
+w_less : (c : Size) (w : Width) → w_needed c (least_width c) ≤ w_needed c w
+w_less c w = grind (arith, nat_tests)
+
+least_x : (r : Option RmRule) → x_needed (least_place r) ≡ 0
+least_x r = grind (arith, nat_tests)
+
+least_r : (row : Row) → r_needed row (least row) ≡ 0
+least_r row = grind (arith, nat_tests)
+
+least_rex : (row : Row) (f : Fields) → rex_needed row (least row) ≤ rex_needed row f
+least_rex row f =
+    let w = w_less row.size f.w in
+    let r = least_r row in
+    let x = least_x row.rm in
+    let b = least_b row in
+    omega arith
+
+least_needs : (row : Row) (f : Fields) → Kept (needs_rex row (least row)) (needs_rex row f)
+least_needs row f = or_kept _ _ _ _ (or_kept _ _ _ _ (positive _ _ (least_rex row f)) (false_kept _ _ (first_low (least_width row.size)))) (false_kept _ _ (least_low row.rm (rm_width row.op (least_width row.size))))
+
+pub needs_kept : (op : Op) (row : Row) (g f : Fields) → Lesser op row g f → needs_rex row g ≡ true → needs_rex row f ≡ true
+needs_kept op row g f (inl b) = below_needs row g f b
+needs_kept op row g f (inr e) = subst (λ k. Kept (needs_rex row k) (needs_rex row f)) (sym e.0) (least_needs row f)
+
+rex-had : (row : Row) (g f : Fields) → Had row f → Below row g f → not (bars_rex g && needs_rex row g) ≡ true
+rex-had row g f h b =
+    let bars : Kept (bars_rex g) (bars_rex f) = or_kept _ _ _ _
+    (either_way (λ r. Kept (is_high r) (is_high f.reg)) g.reg f.reg (regs.R 0) b.reg (λ e. e) (false_kept _ _ refl))
+    (either_way (λ p. Kept (high_place p) (high_place f.rm)) g.rm f.rm (least_place row.rm) b.rm (λ e. e) (false_kept _ _ (least_high row.rm))) in
+    not_and (bars_rex g) (needs_rex row g) (bars_rex f) (needs_rex row f) bars (below_needs row g f b) h.rex
 
 below-had : (row : Row) (g f : Fields) → Had row f → Below row g f → is_met (b_demand row.op row.map (opcode_of row g)) (b_needed row g) ≡ true → Had row g
 below-had row g f h b met = record {
@@ -97,6 +126,6 @@ below-had row g f h b met = record {
   b = met;
 }
 
-pub found_had : (row : Row) (g f : Fields) → Had row f → Below row g f ⊎ (g ≡ least row) → is_met (b_demand row.op row.map (opcode_of row g)) (b_needed row g) ≡ true → Had row g
+pub found_had : (row : Row) (g f : Fields) → Had row f → Lesser row.op row g f → is_met (b_demand row.op row.map (opcode_of row g)) (b_needed row g) ≡ true → Had row g
 found_had row g f h (inl b) met = below-had row g f h b met
-found_had row g f h (inr e) met = subst (Had row) (sym e) (least-had row (subst (λ k. is_met (b_demand row.op row.map (opcode_of row k)) (b_needed row k) ≡ true) e met))
+found_had row g f h (inr e) met = subst (Had row) (sym e.0) (least-had row (subst (λ k. is_met (b_demand row.op row.map (opcode_of row k)) (b_needed row k) ≡ true) e.0 met))

@@ -15,7 +15,7 @@ use Rattle.rz_machine.specs.Nodes.{code_in, IsPlausible}
 use Rattle.rz_machine.specs.State.{step}
 use Rattle.rz_machine.specs.Touches.{StepClear}
 use Rattle.rz_machine.specs.Start.{start, first_regs, first_rsp}
-use Rattle.rz_machine.specs.Added.{Layout}
+use Rattle.rz_machine.specs.Added.{Layout, Places}
 use Rattle.rz_machine.specs.Keeps.{StopsAtStub, KeepsRun}
 use Rattle.rz_machine.specs.Pace.{Paced}
 use Rattle.rz_machine.specs.Placement.{IsPlaced, PlacementsKeep}
@@ -23,6 +23,7 @@ use Rattle.rz_machine.specs.Simulates.{InsnAt, HasCode, Stand, Follows, Simulate
 use Rattle.rz_exec.specs.Registers.{AreRegs}
 use Rattle.rz_exec.specs.Laws.Registers.{set_regs}
 use Rattle.rz_machine.specs.Laws.Runs.{keeps, paced}
+use Rattle.rz_machine.specs.Laws.Targets.{targets_keep}
 use Rattle.rz_machine.specs.Laws.Comes.{step_is, halt_is}
 use Rattle.rz_machine.specs.Laws.StartHeap.{start_heap}
 use Rattle.rz_machine.specs.Laws.StartCode.{start_code}
@@ -38,8 +39,8 @@ first_regs-are input = set_regs (replicate 16 0) 4 _ (record { sixteen = refl; w
     zeros : AllByRecursion (λ v. v < 2 ^ 64) (replicate 16 0)
     zeros = let z = zero_word in (z, (z, (z, (z, (z, (z, (z, (z, (z, (z, (z, (z, (z, (z, (z, (z, tt))))))))))))))))
 
-module _ (dec : Decoder) (x w : Image) (kept : Kept) (lay : Layout) (place bound : ℕ → ℕ) (can : IsPlausible dec (code_in x.loads) x.entry kept)
-    (x_fixed : NoSelfWritten x.loads) (w_fixed : NoSelfWritten w.loads) (are : IsPlaced dec x w kept lay place bound) (input : Input) where
+module _ (dec : Decoder) (x w : Image) (kept : Kept) (lay : Layout) (places : Places) (bound : ℕ → ℕ) (can : IsPlausible dec (code_in x.loads) x.entry kept)
+    (x_fixed : NoSelfWritten x.loads) (w_fixed : NoSelfWritten w.loads) (are : IsPlaced dec x w kept lay places bound) (input : Input) where
   abbrev IsKept : ℕ → Type 0
   IsKept b = has_node kept.nodes b ≡ true
 
@@ -53,7 +54,7 @@ module _ (dec : Decoder) (x w : Image) (kept : Kept) (lay : Layout) (place bound
   wm = new.mem
 
   -- each kept node's fragment follows it
-  each : (s t : Machine) → IsKept s.cpu.rip → Stand lay place x.loads wm s t → StepClear lay.added dec s → Follows dec lay (leads (has_edge kept.edges s.cpu.rip) place lay.stub s.cpu.rip) (bound s.cpu.rip) (step dec s) t
+  each : (s t : Machine) → IsKept s.cpu.rip → Stand lay places.fragment x.loads wm s t → StepClear lay.added dec s → Follows dec lay (leads (has_edge kept.edges s.cpu.rip) places.fragment lay.stub s.cpu.rip) (bound s.cpu.rip) (step dec s) t
   unfolding Simulates
   each s t node st clear =
       let b : ℕ = s.cpu.rip in
@@ -61,7 +62,8 @@ module _ (dec : Decoder) (x w : Image) (kept : Kept) (lay : Layout) (place bound
       let fetched = nd.spelled in
       let here : InsnAt dec x.loads b nd.insn (wrap (b + nd.len)) = record { len = nd.len; spelled = fetched; ends = refl } in
       let fragment = (are.placement input).fragments b node nd.insn nd.len fetched in
-      fragment.simulates lay place fragment.own x.loads wm here fragment.stand fragment.inside (are.placement input).scratch s t refl st clear
+      subst (λ keeps. Follows dec lay (leads keeps places.fragment lay.stub b) (bound b) (step dec s) t) (targets_keep kept.edges b)
+      (fragment.simulates lay places fragment.own x.loads wm here fragment.stand fragment.inside (are.placement input).scratch ((are.placement input).lookups b node nd.insn nd.len fetched) s t refl st clear)
 
   -- a kept node's stub ends the run
   stub_stops : (s t : Machine) → IsKept s.cpu.rip → t.end ≡ None → HasCode wm t.mem → RangeStands lay.added wm t.mem → t.cpu.rip ≡ lay.stub s.cpu.rip → StopsAtStub dec lay s t
@@ -72,7 +74,7 @@ module _ (dec : Decoder) (x w : Image) (kept : Kept) (lay : Layout) (place bound
       ∙ ap (λ (a : ℕ). Some (end.Illegal a)) there
 
   -- both runs stand at the start
-  standing : Stand lay place x.loads wm old new
+  standing : Stand lay places.fragment x.loads wm old new
   standing =
       record {
         old_runs = refl;
@@ -92,12 +94,12 @@ module _ (dec : Decoder) (x w : Image) (kept : Kept) (lay : Layout) (place bound
       same_start = record { stdin = refl; replies = refl; events = refl; first_break = sym are.first_break; brk = sym are.first_break }
 
   pub keeps_placed : KeepsRun dec kept.edges lay old new
-  keeps_placed = keeps dec kept.edges lay place bound IsKept x.loads wm can.stands.ends each stub_stops old new can.entry_kept standing
+  keeps_placed = keeps dec kept.edges lay places.fragment bound IsKept x.loads wm can.stands.ends each stub_stops old new can.entry_kept standing
 
   pub paced_placed : Paced dec kept.edges lay bound old new
-  paced_placed = paced dec kept.edges lay place bound IsKept x.loads wm can.stands.ends each stub_stops old new can.entry_kept standing
+  paced_placed = paced dec kept.edges lay places.fragment bound IsKept x.loads wm can.stands.ends each stub_stops old new can.entry_kept standing
 
 -- the law
 pub placements_keep : (dec : Decoder) → PlacementsKeep dec
-placements_keep dec x w kept lay place bound can x_fixed w_fixed are input =
-    (keeps_placed dec x w kept lay place bound can x_fixed w_fixed are input, paced_placed dec x w kept lay place bound can x_fixed w_fixed are input)
+placements_keep dec x w kept lay places bound can x_fixed w_fixed are input =
+    (keeps_placed dec x w kept lay places bound can x_fixed w_fixed are input, paced_placed dec x w kept lay places bound can x_fixed w_fixed are input)

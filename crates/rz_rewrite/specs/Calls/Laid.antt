@@ -9,8 +9,8 @@ use Rattle.rz_layout.specs.declared.plan.Layout.{Layout}
 use Rattle.rz_layout.specs.Layout.{nodes_of, all_near, AreLow, ArePlaces, IsAscending}
 use Rattle.rz_emit.specs.Emitted.{emitted, IsOrdered}
 use Rattle.rz_rewrite.specs.declared.added.AddedRange.{AddedRange}
-use Rattle.rz_rewrite.specs.declared.code.NewCode.{NewCode}
-use Rattle.rz_rewrite.specs.Calls.Places.{places_from, beside_or_zero}
+use Rattle.rz_rewrite.specs.declared.code.LaidCode.{LaidCode}
+use Rattle.rz_rewrite.specs.Calls.Places.{places_from, routine_in}
 
 -- what the layout and the emission of fragments ask, whose code lies between these addresses
 pub record MayLay (rows : List Row) (code stubs : ℕ) (f : Fragments) : Type 0 where
@@ -22,8 +22,8 @@ pub record MayLay (rows : List Row) (code stubs : ℕ) (f : Fragments) : Type 0 
   pub low_stubs : AreLow f.stubs
   pub ordered : IsOrdered f
 
--- fragments were laid out in such a range and emitted, and the file begins at the place of an address
-pub record IsLaid (rows : List Row) (range : AddedRange) (f : Fragments) (entry : ℕ) (code : NewCode) : Type 0 where
+-- fragments were laid out in such a range and emitted
+pub record IsLaid (rows : List Row) (range : AddedRange) (f : Fragments) (code : LaidCode) : Type 0 where
   pub laid : Layout
   pub base : laid.base ≡ range.code
   pub stop : laid.stubs ≡ range.stubs
@@ -32,5 +32,4 @@ pub record IsLaid (rows : List Row) (range : AddedRange) (f : Fragments) (entry 
   pub least : IsLeastPlan rows f range.code laid.forms
   pub bytes : code.bytes ≡ emitted rows f laid
   pub spots : code.places ≡ places_from laid.places 0 f.list
-  pub stubs : code.stubs ≡ f.stubs
-  pub begins : code.entry ≡ beside_or_zero code.places entry
+  pub routine : code.routine ≡ routine_in laid.places f.routine

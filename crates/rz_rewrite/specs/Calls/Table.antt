@@ -8,6 +8,7 @@ use Rattle.rz_isa.specs.Table.{Lengths}
 use Rattle.rz_encode.specs.Laws.{DecodesBack}
 use Rattle.rz_encode.specs.Length.{CanonicalLengths}
 use Rattle.rz_frag.specs.Fragment.{FragmentsSimulate, FragmentsAreSized}
+use Rattle.rz_lookup.specs.Routine.{RoutineLooksUp, RoutineIsSized}
 use Rattle.rz_sites.specs.Site.{SitesSimulate, SitesAreSized}
 
 pub record TableFacts (rows : List Row) : Type 0 where
@@ -20,3 +21,5 @@ pub record TableFacts (rows : List Row) : Type 0 where
   pub fragments_sized : FragmentsAreSized rows 32
   pub sites_simulate : SitesSimulate (decoded rows)
   pub sites_sized : SitesAreSized rows
+  pub routine_looks_up : RoutineLooksUp (decoded rows)
+  pub routine_sized : RoutineIsSized rows

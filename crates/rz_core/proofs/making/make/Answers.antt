@@ -13,7 +13,7 @@ returns-in-Ok-write_new-clause-made c =
     let kept = c.in-Ok.ensures in
     let made = c.in-Ok-write_new.ensures in
     debloated_of c.args.level c.args.limit from c.in_ok-recorded.recorded c.in-Ok.kept runs.kept kept.keeps runs.stay c.in-Ok-write_new.made.bytes
-    kept.within made.reach made.room made.keeps made.paced made.inert
+    kept.within made.reach made.room made.keeps made.paced made.costs made.inert
 
 pub returns-in-Ok-write_new-clause-report : goal.returns-in-Ok-write_new-clause-report
 returns-in-Ok-write_new-clause-report c =

@@ -13,12 +13,12 @@ use Rattle.rz_elfw.proofs.NewFile.{written_accepted, written_image}
 use Rattle.rz_elfw.proofs.write.write_elf.Goals as goal
 
 -- one append after the other
-appended : (page file fill tables code stubs o0 o1 o2 o3 o4 o5 o6 : List ℕ) → o0 ≡ [] → o1 ≡ o0 ++ page → o2 ≡ o1 ++ file → o3 ≡ o2 ++ fill → o4 ≡ o3 ++ tables → o5 ≡ o4 ++ code → o6 ≡ o5 ++ stubs → o6 ≡ page ++ (file ++ (fill ++ (tables ++ (code ++ stubs))))
-appended page file fill tables code stubs o0 o1 o2 o3 o4 o5 o6 e0 e1 e2 e3 e4 e5 e6 = rw (e6, e5, e4, e3, e2, e1, e0) (simp append_assoc)
+appended : (page file fill parts o0 o1 o2 o3 o4 : List ℕ) → o0 ≡ [] → o1 ≡ o0 ++ page → o2 ≡ o1 ++ file → o3 ≡ o2 ++ fill → o4 ≡ o3 ++ parts → o4 ≡ page ++ (file ++ (fill ++ parts))
+appended page file fill parts o0 o1 o2 o3 o4 e0 e1 e2 e3 e4 = rw (e4, e3, e2, e1, e0) (simp append_assoc)
 
-same_file : (x : List ℕ) (p : Parts) (entry : ℕ) (segs : List Segment) (file tables code stubs : List ℕ) (fill : ℕ) → segs ≡ new_segments x p → file ≡ x → fill ≡ page_up (length x) - length x → tables ≡ p.tables → code ≡ p.code → stubs ≡ p.stubs → header_page segs entry ++ (file ++ (zeros fill ++ (tables ++ (code ++ stubs)))) ≡ written_file x p entry
+same_file : (x : List ℕ) (p : Parts) (entry : ℕ) (segs : List Segment) (file : List ℕ) (fill : ℕ) → segs ≡ new_segments x p → file ≡ x → fill ≡ page_up (length x) - length x → header_page segs entry ++ (file ++ (zeros fill ++ (p.tables ++ (p.code ++ p.stubs)))) ≡ written_file x p entry
 unfolding written_file
-same_file x p entry segs file tables code stubs fill a b d t c s = λ i. header_page (a i) entry ++ (b i ++ (zeros (d i) ++ (t i ++ (c i ++ s i))))
+same_file x p entry segs file fill a b d = λ i. header_page (a i) entry ++ (b i ++ (zeros (d i) ++ (p.tables ++ (p.code ++ p.stubs))))
 
 -- the parts end below the lowest load
 low_stop : (inside elf : ElfFile) (p : Parts) → inside ≡ elf → IsRead inside → parts_end p ≡ (extent_of elf.bytes).floor → parts_end p ≤ 0x70000000
@@ -47,14 +47,10 @@ returns c =
     let filled : fill ≡ page_up (length x) - length x = rw (c.page_up.ensures, same) refl in
     let written : c.from_vec.result ≡ written_file x c.args.parts.now c.args.entry =
     c.from_vec.ensures
-    ∙ appended (header_page c.as_slice.result.now c.args.entry) file (zeros fill) c.as_slice-tables.result.now c.as_slice-code.result.now c.as_slice-stubs.result.now
-    c.in_ok-out.out.items c.push_header_page.new.out.items c.extend_from_slice.new.self.items c.push_zeros.new.out.items c.extend_from_slice-2.new.self.items c.extend_from_slice-3.new.self.items c.extend_from_slice-4.new.self.items
-    c.in_ok-out.ensures.items c.in_ok-push_header_page.ensures c.in_ok-extend_from_slice.ensures.items c.in_ok-push_zeros.ensures c.in_ok-extend_from_slice-2.ensures.items c.in_ok-extend_from_slice-3.ensures.items c.in_ok-extend_from_slice-4.ensures.items
-    ∙ same_file x c.args.parts.now c.args.entry c.as_slice.result.now file c.as_slice-tables.result.now c.as_slice-code.result.now c.as_slice-stubs.result.now fill
-    (c.as_slice.ensures.value ∙ c.in_ok-segments.ensures) same filled
-    (c.as_slice-tables.ensures.value ∙ ap (λ (p : Parts). p.tables) c.parts.view_is)
-    (c.as_slice-code.ensures.value ∙ ap (λ (p : Parts). p.code) c.parts.view_is)
-    (c.as_slice-stubs.ensures.value ∙ ap (λ (p : Parts). p.stubs) c.parts.view_is) in
+    ∙ appended (header_page c.as_slice.result.now c.args.entry) file (zeros fill) (c.args.parts.now.tables ++ (c.args.parts.now.code ++ c.args.parts.now.stubs))
+    c.in_ok-out.out.items c.push_header_page.new.out.items c.extend_from_slice.new.self.items c.push_zeros.new.out.items c.push_parts.new.out.items
+    c.in_ok-out.ensures.items c.in_ok-push_header_page.ensures c.in_ok-extend_from_slice.ensures.items c.in_ok-push_zeros.ensures c.in_ok-push_parts.ensures
+    ∙ same_file x c.args.parts.now c.args.entry c.as_slice.result.now file fill (c.as_slice.ensures.value ∙ c.in_ok-segments.ensures) same filled in
     let can = writable _ c.args.elf.now c.args.parts.now c.args.entry c.elf.inside.bytes c.elf.view_is c.elf.invariant (ap (λ (e : ElfFile). e.bytes) c.elf.view_is) c.as_slice-file.ensures.bytes c.requires.pages c.requires.below c.requires.entry c.requires.room in
     let image = ap image_of written ∙ written_image x c.args.parts.now c.args.entry can in
     record {

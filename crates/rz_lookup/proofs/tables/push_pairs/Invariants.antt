@@ -1,5 +1,5 @@
 use Rattle.std.proofs.Common.{◌≡◌, drop, ◌++◌}
-use Rattle.rz_lookup.specs.Tables.{pairs_bytes}
+use Rattle.rz_machine.specs.Tables.{pairs_bytes}
 use Rattle.rz_lookup.proofs.tables.push_pairs.Given as goal
 
 abbrev pub invariant-loop-target : goal.invariant-loop-target

@@ -1,6 +1,6 @@
 use Rattle.std.proofs.Common.{◌≡◌, List, ℕ, [], ◌++◌, length, OnOk, append_assoc, ap, ◌∙◌, subst}
 use Rattle.byteorder.specs.Endian.{little_bytes}
-use Rattle.rz_lookup.specs.Tables.{table_of, pairs_bytes}
+use Rattle.rz_machine.specs.Tables.{table_of, pairs_bytes}
 use Rattle.rz_lookup.proofs.tables.table_bytes.Goals as goal
 
 -- three parts, appended in turn

@@ -1,4 +1,4 @@
-use Rattle.std.proofs.Common.{◌≡◌, ℕ, ◌-◌, List, ◌++◌, length, replicate, ap, ◌∙◌, arith}
+use Rattle.std.proofs.Common.{ℕ, ◌-◌, List, ◌++◌, length, replicate, ap, ◌∙◌, arith}
 use Rattle.rz_image.specs.Memory.{zeros}
 use Rattle.rz_elf.specs.Format.{int3}
 use Rattle.rz_rewrite.proofs.Parts.{length-all_stubs}
@@ -12,10 +12,7 @@ filled-requires-2 c =
 
 pub returns-clause-tables : goal.returns-clause-tables
 unfolding zeros
-returns-clause-tables c =
-    let n = c.args.range.now.code - c.args.range.now.tables in
-    let all : n - 0 ≡ n = omega arith in
-    c.in_ok-tables.ensures ∙ ap (λ (l : List ℕ). l ++ replicate (n - length l) 0) c.new.ensures ∙ ap (λ k. replicate k 0) all
+returns-clause-tables c = c.in_ok-tables.ensures
 
 pub returns-clause-stubs : goal.returns-clause-stubs
 returns-clause-stubs c =

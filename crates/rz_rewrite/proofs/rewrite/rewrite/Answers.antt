@@ -8,6 +8,8 @@ use Rattle.rz_elf.specs.Room.{no_room}
 use Rattle.rz_machine.specs.Kept.{Kept}
 use Rattle.rz_machine.specs.Traced.{kept_in}
 use Rattle.rz_rewrite.specs.Refusals.{size_for}
+use Rattle.rz_rewrite.specs.Rewritten.{IsBound}
+use Rattle.rz_rewrite.specs.Laws.Greatest.{is_bound}
 use Rattle.rz_rewrite.proofs.Planned.{plain_read, heap_read}
 use Rattle.rz_rewrite.specs.Laws.Measured.{reach_is, room_is, range_is}
 use Rattle.rz_rewrite.proofs.RewriteLaws.{planned}
@@ -70,3 +72,9 @@ returns-in-Ok-clause-base g c =
     let range = range_is dec c.args.elf.now.bytes kept c.as_slice-nodes.result.now c.as_slice-edges.result.now nodes edges c.site_count-sites.result c.site_edge_count-site_edges.result c.site_count-sites.ensures c.site_edge_count-site_edges.ensures in
     c.in_ok-write_new-in-Ok.ensures.base
     ∙ ap (λ (a : Added). a.scratch) (c.in-Ok.ensures.range ∙ ap (λ e. parts_below (tables_size c.site_count-sites.result c.site_edge_count-site_edges.result) (code_size (length c.as_slice-nodes.result.now) c.site_count-sites.result c.site_edge_count-site_edges.result) (stubs_size (length c.as_slice-nodes.result.now)) e.floor) c.extent_of.ensures ∙ range)
+
+pub returns-in-Ok-clause-most : goal.returns-in-Ok-clause-most
+returns-in-Ok-clause-most g c =
+    let dec = decoded g.T.InsnTable.rows in
+    let kept : Kept = kept_in c.args.kept.now in
+    subst (IsBound dec (image_of c.args.elf.now.bytes) kept) (sym c.in_ok-write_new-in-Ok.ensures.bound) (is_bound dec (image_of c.args.elf.now.bytes) kept)

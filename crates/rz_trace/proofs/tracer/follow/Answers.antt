@@ -1,57 +1,53 @@
-use Rattle.std.proofs.Common.{◌≡◌, ℕ, Bool, Option, is_some, sym, ap, ◌∙◌, refl, arith, subst, ⊎_elim}
+use Rattle.std.proofs.Common.{◌≡◌, ℕ, Option, sym, ap, ◌∙◌, refl, arith, subst, ⊎_elim}
+use Rattle.rz_aset.specs.declared.kept.Record.{Record}
 use Rattle.rz_isa.specs.Decoded.{decoded}
 use Rattle.rz_machine.specs.MachineState.{MachineState}
 use Rattle.rz_machine.specs.LeftCode.{left_at}
-use Rattle.rz_machine.specs.Traced.{kept_in}
-use Rattle.rz_machine.specs.Calls.Cache.{Serves}
-use Rattle.rz_trace.proofs.TraceTurns.{no_memory, Followed-start, Followed-turn, Followed-ended, Followed-left, Followed-part, Followed-node}
+use Rattle.rz_machine.specs.Traced.{kept_in, with_run}
+use Rattle.rz_machine.specs.State.{after}
+use Rattle.rz_machine.specs.Laws.Until.{made_whole}
+use Rattle.rz_trace.specs.Traced.{HasPart}
+use Rattle.rz_trace.proofs.TraceTurns.{no_memory, Followed-start, Followed-part, HasPart-more, run_whole}
 use Rattle.rz_trace.proofs.tracer.follow.Goals as goal
 
--- whether a machine that was opened has ended
-end_is : {s t : MachineState} {b : Bool} → s ≡ t → is_some s.end ≡ b → is_some t.end ≡ b
-end_is same e = ap (λ (u : MachineState). is_some u.end) (sym same) ∙ e
+-- where a machine found no instruction, by what was asked of it
+left_is : {s t : MachineState} {o : Option ℕ} → s ≡ t → o ≡ left_at s.end → left_at t.end ≡ o
+left_is same e = sym (e ∙ ap (λ (u : MachineState). left_at u.end) same)
 
--- where it stands
-rip_is : {s t : MachineState} → s ≡ t → s.cpu.rip ≡ t.cpu.rip
-rip_is same = ap (λ (u : MachineState). u.cpu.rip) same
+pub observe-ran-requires : goal.observe-ran-requires
+observe-ran-requires g c = Followed-start _ _ _ _ (c.new-2.ensures (kept_in c.replace.result))
 
--- and where it found no instruction
-left_is : {s t : MachineState} {o : Option ℕ} → s ≡ t → o ≡ left_at s.end → o ≡ left_at t.end
-left_is same e = e ∙ ap (λ (u : MachineState). left_at u.end) same
-
-pub loop-init : goal.loop-init
-loop-init g c =
-    let serves = subst (λ (s : MachineState). Serves (decoded g.T.InsnTable.rows) s.mem c.new-cache.result) c.machine.view_is c.new-cache.ensures in
-    record { followed = Followed-start _ _ _ c.requires; serves = serves; knows = c.new-memo.ensures (kept_in c.args.rec.now) }
-
-pub returns-then-is_some-clause-ok : goal.returns-then-is_some-clause-ok
-returns-then-is_some-clause-ok g c =
-    (Followed-ended _ _ _ _ _ _ _ c.loop.invariant.followed _ (omega arith) (end_is c.machine-in-loop.view_is (sym c.is_some.ensures ∙ c.if-is_some.true))).1
-
-pub returns-then-is_some-clause-stays : goal.returns-then-is_some-clause-stays
-returns-then-is_some-clause-stays g c =
-    (Followed-ended _ _ _ _ _ _ _ c.loop.invariant.followed _ (omega arith) (end_is c.machine-in-loop.view_is (sym c.is_some.ensures ∙ c.if-is_some.true))).0
-
-pub returns-in_err-step_with-clause-err : goal.returns-in_err-step_with-clause-err
-returns-in_err-step_with-clause-err g c =
-    no_memory _ _ _ _ _ _ c.from_residual.ensures.1 (Followed-part _ _ _ _ _ _ _ c.loop.invariant.followed _ _ (omega arith) refl refl)
+pub returns-in_err-ran-clause-err : goal.returns-in_err-ran-clause-err
+returns-in_err-ran-clause-err g c =
+    let dec = decoded g.T.InsnTable.rows in
+    let s = c.args.machine.now in
+    let new = kept_in c.observe-ran.new.observer.rec in
+    let left = c.in_err-ran.ensures.err in
+    let part : HasPart dec c.args.limit s (kept_in c.replace.result) new = ⊎_elim
+    (λ step. Followed-part dec left.0 s _ _ _ _ step.1 c.args.limit new (omega (arith, left.1)) refl refl)
+    (λ seen. HasPart-more dec _ c.args.limit s _ new (omega (arith, left.1)) seen.1)
+    left.2 in
+    no_memory dec c.args.limit s _ new _ c.from_residual.ensures.1 (subst (λ (r : Record). HasPart dec c.args.limit s (kept_in r) new) c.replace.ensures.value part)
 
 pub returns-in-Some-clause-err : goal.returns-in-Some-clause-err
 returns-in-Some-clause-err g c =
-    Followed-left _ _ _ _ _ _ _ c.loop.invariant.followed _ (end_is c.machine-in-loop.view_is (sym c.is_some.ensures ∙ c.if-is_some.false)) c.in_ok-step_with.ensures.ok _ _ c.loop-test.true (left_is c.machine-in-loop-2.view_is c.in-Some.ensures)
+    let dec = decoded g.T.InsnTable.rows in
+    let s = c.args.machine.now in
+    let made = c.in_ok-ran.ensures.steps in
+    let whole = c.in_ok-ran.ensures.ran ∙ ap (λ k. after dec k s) made ∙ made_whole dec c.args.limit s in
+    let kept = run_whole dec c.args.limit c.in_ok-ran.field-0 s _ (kept_in c.observe-ran.new.observer.rec) made c.in_ok-ran.ensures.follows.holds in
+    (left_is (c.machine.view_is ∙ whole) c.in-Some.ensures, kept ∙ ap (λ (r : Record). with_run dec c.args.limit s (kept_in r)) c.replace.ensures.value)
 
-pub returns-in_err-add_with-clause-err : goal.returns-in_err-add_with-clause-err
-returns-in_err-add_with-clause-err g c =
-    let part = ⊎_elim
-    (λ same. Followed-part _ _ _ _ _ _ _ c.loop.invariant.followed _ _ (omega arith) same c.in_err-add_with.ensures.edges)
-    (λ one. Followed-node _ _ _ _ _ _ _ c.loop.invariant.followed _ (end_is c.machine-in-loop.view_is (sym c.is_some.ensures ∙ c.if-is_some.false)) c.in_ok-step_with.ensures.ok (left_is c.machine-in-loop-2.view_is c.in_default.ensures) _ _ (rip_is c.machine-in-loop.view_is) _ c.loop-test.true one c.in_err-add_with.ensures.edges)
-    c.in_err-add_with.ensures.nodes in
-    no_memory _ _ _ _ _ _ c.from_residual-in_err-add_with.ensures.1 part
+pub returns-clause-ok : goal.returns-clause-ok
+returns-clause-ok g c =
+    let dec = decoded g.T.InsnTable.rows in
+    let s = c.args.machine.now in
+    let kept = run_whole dec c.args.limit c.in_ok-ran.field-0 s _ (kept_in c.observe-ran.new.observer.rec) c.in_ok-ran.ensures.steps c.in_ok-ran.ensures.follows.holds in
+    kept ∙ ap (λ (r : Record). with_run dec c.args.limit s (kept_in r)) c.replace.ensures.value
 
-pub loop-preserved : goal.loop-preserved
-loop-preserved g c =
-    record {
-      followed = Followed-turn _ _ _ _ _ _ _ c.loop.invariant.followed _ (end_is c.machine-in-loop.view_is (sym c.is_some.ensures ∙ c.if-is_some.false)) c.in_ok-step_with.ensures.ok (left_is c.machine-in-loop-2.view_is c.in_default.ensures) _ (rip_is c.machine-in-loop.view_is) _ c.in_ok-add_with.ensures.ok;
-      serves = c.in_ok-step_with.ensures.serves;
-      knows = c.in_ok-add_with.ensures.knows;
-    }
+pub returns-clause-stays : goal.returns-clause-stays
+returns-clause-stays g c =
+    let dec = decoded g.T.InsnTable.rows in
+    let s = c.args.machine.now in
+    let whole = c.in_ok-ran.ensures.ran ∙ ap (λ k. after dec k s) c.in_ok-ran.ensures.steps ∙ made_whole dec c.args.limit s in
+    left_is (c.machine.view_is ∙ whole) c.in-None.ensures
