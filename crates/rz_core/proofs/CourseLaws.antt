@@ -1,5 +1,5 @@
 -- The answers of commands that read files in order.
-use Rattle.std.proofs.Common.{◌≡◌, ℕ, ◌≤◌, ◌∙◌, List, [], ◌∷◌, inl, inr, ⊎_elim, IsTrue, sym, subst}
+use Rattle.std.proofs.Common.{◌≡◌, ℕ, Bool, true, false, if◌then◌else◌, ◌≤◌, ◌∙◌, List, [], ◌∷◌, inl, inr, ⊎_elim, IsTrue, sym, subst}
 use Rattle.std.specs.Prelude.{Option, Some, None, Result, Ok, Err}
 use Rattle.rz_outside.specs.Counts.{Rose, rose_later}
 use Rattle.rz_outside.specs.StoreAnswers.{SameFiles}
@@ -8,6 +8,10 @@ use Rattle.rz_elf.specs.Elf.{fault_of}
 use Rattle.rz_classes.specs.Fault.{fault_of as class_fault_of}
 use Rattle.rz_input.specs.Fault.{fault_of as input_fault_of}
 use Rattle.rz_trace.specs.Fault.{fault_of as trace_fault_of}
+use Rattle.rz_elf.specs.Loaded.{ElfFile, elf_of}
+use Rattle.rz_elf.specs.Stamped.{stamp_of}
+use Rattle.rz_syms.specs.Fault.{fault_of as symbol_fault_of}
+use Rattle.rz_label.specs.Labelled.{maps_header}
 use Rattle.rz_core.specs.declared.status.Status.{Status}
 use Rattle.rz_core.specs.declared.status.Status.TheVariants as status
 use Rattle.rz_core.specs.Statuses.{Kind, Done, TextLost, NoMemory, Refused, kind_of}
@@ -15,7 +19,7 @@ use Rattle.rz_core.specs.Reading.{ReadRefusal}
 use Rattle.rz_core.specs.declared.plan.Demand.{Demand}
 use Rattle.rz_core.specs.declared.plan.Demand.TheVariants as demand
 use Rattle.rz_core.specs.declared.plan.Wanted.{Wanted}
-use Rattle.rz_core.specs.Reading.{Read, judged, taken_as, IsTaken, AreTaken, FileRefusal, Course}
+use Rattle.rz_core.specs.Reading.{Read, judged, asked, unmapped, class_text, taken_as, IsTaken, AreTaken, FileRefusal, Course}
 
 pub course_map : (ws : List Wanted) (r : Read) (s : StoreCalls) (P Q : Read → Status → Type 0) (st : Status) → ((last : Read) → P last st → Q last st) → Course ws r s P st → Course ws r s Q st
 course_map [] r s P Q st f h = f r h
@@ -52,9 +56,19 @@ judged_early (Some x) refusal next st f g e = let same : refusal x ≡ st = cc i
 not_err : (r : Read) (st : Status) → Ok r ≡ Err st → IsEarlyAt st
 not_err r st e = absurd cc
 
+unmapped_early : (name : List ℕ) (elf : ElfFile) (next : Result Read Status) (st : Status) → (next ≡ Err st → IsEarlyAt st) → unmapped name elf next ≡ Err st → IsEarlyAt st
+unmapped_early name elf next st g e = by (stamp_of elf) (maps_header elf) e
+  where
+    by : (o : Option ℕ) (b : Bool) → asked o (status.NotStamped name) (if b then Err (status.HeaderMapped name) else next) ≡ Err st → IsEarlyAt st
+    by None b e = let same : status.NotStamped name ≡ st = cc in subst IsEarlyAt same tt
+    by (Some n) true e = let same : status.HeaderMapped name ≡ st = cc in subst IsEarlyAt same tt
+    by (Some n) false e = g e
+
 taken_early : (d : Demand) (name : List ℕ) (r : Read) (x : List ℕ) (st : Status) → taken_as d name r x ≡ Err st → IsEarlyAt st
 taken_early demand.Accepted name r x st e = judged_early (fault_of x) _ _ st (λ f. tt) (not_err _ st) e
-taken_early demand.ClassFile name r x st e = judged_early (class_fault_of x) _ _ st (λ f. tt) (not_err _ st) e
+taken_early demand.Named name r x st e = judged_early (fault_of x) _ _ st (λ f. tt) (λ h. judged_early (symbol_fault_of x) _ _ st (λ f. tt) (not_err _ st) h) e
+taken_early demand.Unmapped name r x st e = judged_early (fault_of x) _ _ st (λ f. tt) (λ h. unmapped_early name (elf_of x) _ st (not_err _ st) h) e
+taken_early demand.ClassFile name r x st e = judged_early (class_fault_of (class_text r x)) _ _ st (λ f. tt) (not_err _ st) e
 taken_early demand.Input name r x st e = judged_early (input_fault_of x) _ _ st (λ f. tt) (not_err _ st) e
 taken_early demand.Trace name r x st e = judged_early (trace_fault_of x) _ _ st (λ f. tt) (not_err _ st) e
 

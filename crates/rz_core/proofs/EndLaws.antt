@@ -1,5 +1,5 @@
 -- What was read ends each work in one way.
-use Rattle.std.proofs.Common.{◌≡◌, ℕ, suc, ⊎_elim, List, [], ◌∷◌, refl, sym, ap, ap₂, ◌∙◌}
+use Rattle.std.proofs.Common.{◌≡◌, ◌≤◌, ◌<◌, arith, ℕ, suc, ⊎_elim, List, [], ◌∷◌, refl, sym, ap, ap₂, ◌∙◌}
 use Rattle.std.specs.Prelude.{Option}
 use Rattle.rz_sys.specs.declared.input.Input.{Input}
 use Rattle.rz_machine.specs.LeftCode.{left_at}
@@ -24,6 +24,8 @@ use Rattle.rz_core.specs.Reading.{Read, exe_of, input_in}
 use Rattle.rz_core.specs.Words.{Planned}
 use Rattle.rz_core.specs.Commands.{work_of, command_of}
 use Rattle.rz_core.specs.Ran.{stop_of, RunEnds}
+use Rattle.rz_elf.specs.declared.room.Room.TheVariants as room
+use Rattle.rz_core.specs.Labelled.{LabelEnds}
 use Rattle.rz_core.specs.Demonstrated.{demonstrated}
 use Rattle.rz_core.proofs.ExactLaws.{EndsOnce}
 
@@ -104,6 +106,19 @@ run_once limit x input (status.StubStop a) (status.StubStop b) g h = ap (λ n. s
 run_once limit x input (status.StubStop a) _ g h = absurd h
 run_once limit x input _ other g h = absurd g
 
+-- and labelling
+not_less : {A : Type 0} (n m : ℕ) → n ≤ m → m < n → A
+not_less n m le lt = absurd (omega (arith, le, lt))
+
+label_once : (x : List ℕ) (st other : Status) → LabelEnds x st → LabelEnds x other → st ≡ other
+label_once x status.Ok status.Ok g h = refl
+label_once x status.Ok (status.NoRoom room.Length) g h = not_less _ _ g h
+label_once x status.Ok _ g h = absurd h
+label_once x (status.NoRoom room.Length) status.Ok g h = not_less _ _ h g
+label_once x (status.NoRoom room.Length) (status.NoRoom room.Length) g h = refl
+label_once x (status.NoRoom room.Length) _ g h = absurd h
+label_once x _ other g h = absurd g
+
 -- each work ends in one way
 works_once : (v : Verb) (values : Values) (r : Read) (st other : Status) → (work_of v values).Ends r st → (work_of v values).Ends r other → st ≡ other
 works_once verb.Debloat values r = debloat_once values.level values.number (sources_in r)
@@ -114,6 +129,8 @@ works_once verb.Run values r = run_once values.number (exe_of r) (input_in r)
 works_once verb.Trace values r = trace_once values.number (exe_of r) r.inputs
 works_once verb.Replay values r = λ st other g h. g ∙ sym h
 works_once verb.Report values r = well_once
+works_once verb.Functions values r = trace_once values.number (exe_of r) r.inputs
+works_once verb.Label values r = label_once (exe_of r)
 works_once verb.Demo values r = debloat_once level.Exact GEN_STEPS_LIMIT (demonstrated values.number)
 
 pub ends_once : (p : Planned) → EndsOnce (command_of p)

@@ -1,5 +1,5 @@
 -- What the words of a form say is sound: what is read serves its work, and its written files are different.
-use Rattle.std.proofs.Common.{arith, ◌≡◌, ◌≢◌, ℕ, ◌+◌, ◌≤◌, Bool, true, false, if◌then◌else◌, List, [], ◌∷◌, ◌++◌, length, length-append, inl, inr, ⊎_elim, refl, sym, subst}
+use Rattle.std.proofs.Common.{arith, ◌≡◌, ◌≢◌, ℕ, ◌+◌, ◌≤◌, Bool, true, false, if◌then◌else◌, List, [], ◌∷◌, ◌++◌, length, length-append, inl, inr, ⊎_elim, refl, sym, ap, subst}
 use Rattle.std.proofs.lemmas.Bool.{leb-true}
 use Rattle.std.proofs.lemmas.Slice.Eq.{bytes_eq-Decides}
 use Rattle.std.specs.Prelude.{◌⊎◌, IsTrue, ◌||◌, not, ◌&&◌, nat_le, bytes_eq, codes, Option, Some, None, option_map, option_and_then, Result, Ok, Err}
@@ -13,11 +13,12 @@ use Rattle.rz_core.specs.declared.plan.Wanted.{Wanted}
 use Rattle.rz_core.specs.declared.plan.Verb.{Verb}
 use Rattle.rz_core.specs.declared.forms.Place.{Place}
 use Rattle.rz_core.specs.declared.forms.Place.TheVariants as place
-use Rattle.rz_core.specs.Reading.{Read, nothing, taken_as, AreTaken}
+use Rattle.rz_core.specs.Reading.{Read, nothing, exe_of, taken_as, AreTaken}
 use Rattle.rz_core.specs.Words.{Planned, begun, wanted, reading, writing, valued, numbered, addressed, levelled, is_name, are_inputs, level_of, number_to, number_of, address_of, with_read, is_among, with_inputs, said, filled, places_of}
 use Rattle.rz_core.specs.Writing.{IsNone, AreDistinct}
-use Rattle.rz_core.specs.Calls.Planned.{executables_for, executables_in, inputs_for, inputs_in, writes_in, greatest_in, Serves, IsReadBy, IsSound}
-use Rattle.rz_core.proofs.GivenLaws.{given, took}
+use Rattle.rz_core.specs.Calls.Planned.{executables_for, executables_in, inputs_for, inputs_in, writes_in, greatest_in, BeginsAs, Begins, IsSuited, IsFirstSuited, Serves, IsReadBy, IsSound}
+use Rattle.rz_core.specs.Calls.Taking.{CanLabel}
+use Rattle.rz_core.proofs.GivenLaws.{BeginsWith, given, first_stays, exe_is, took}
 
 -- ---- an induction over the places of a form
 
@@ -229,6 +230,8 @@ record IsCounted (exes inputs : ℕ) (r last : Read) : Type 0 where
 
 counted_given : (d : Demand) (r : Read) (x : List ℕ) → IsCounted (executables_for d) (inputs_for d) r (given d r x)
 counted_given demand.Accepted r x = let n = length-append r.executables (elf_of x ∷ []) in record { exes_are = n; inputs_are = omega arith }
+counted_given demand.Named r x = let n = length-append r.executables (elf_of x ∷ []) in record { exes_are = n; inputs_are = omega arith }
+counted_given demand.Unmapped r x = let n = length-append r.executables (elf_of x ∷ []) in record { exes_are = n; inputs_are = omega arith }
 counted_given demand.ClassFile r x = record { exes_are = omega arith; inputs_are = omega arith }
 counted_given demand.Input r x = let n = length-append r.inputs (input_of x ∷ []) in record { exes_are = omega arith; inputs_are = n }
 counted_given demand.Trace r x = record { exes_are = omega arith; inputs_are = omega arith }
@@ -247,6 +250,77 @@ all_counted (w ∷ ws) r last h =
     let c = one.inputs_are in
     let d = rest.inputs_are in
     record { exes_are = omega (arith, a, b); inputs_are = omega (arith, c, d) }
+
+-- ---- what is read first
+
+begins_append : (d : Demand) (ws : List Wanted) (w : Wanted) → BeginsAs d ws → BeginsAs d (ws ++ w ∷ [])
+begins_append d [] w h = absurd h
+begins_append d (v ∷ ws) w h = h
+
+module _ (d : Demand) where
+  abbrev Stays : List Place → Planned → Type 0
+  Stays ps p = BeginsAs d p.reads
+
+  stays : (place : Place) (ps : List Place) (w : List ℕ) (p next : Planned) → Stays (place ∷ ps) p → said place w p ≡ Some next → Stays ps next
+  stays (place.Read other) ps w p next h e =
+      subst (λ (x : Planned). Stays ps x) (if_same (is_name w) _ next e) (begins_append d p.reads (wanted w other) h)
+  stays place.Classes ps w p next h e = by (bytes_eq w (codes "-")) e
+    where
+      by : (b : Bool) → (if b then Some p else with_read w demand.ClassFile p) ≡ Some next → Stays ps next
+      by true e = subst (λ (x : Planned). Stays ps x) (some_same p next e) h
+      by false e = subst (λ (x : Planned). Stays ps x) (if_same (is_name w) _ next e) (begins_append d p.reads (wanted w demand.ClassFile) h)
+  stays place.Write ps w p next h e = subst (λ (x : Planned). Stays ps x) (if_same (is_name w && not (is_among w p.writes)) _ next e) h
+  stays (place.Number top) ps w p next h e = by (number_of top w) e
+    where
+      by : (o : Option ℕ) → option_map (λ n. valued (numbered n p.values) p) o ≡ Some next → Stays ps next
+      by None e = absurd cc
+      by (Some n) e = subst (λ (x : Planned). Stays ps x) (some_same _ next e) h
+  stays place.Address ps w p next h e = by (address_of w) e
+    where
+      by : (o : Option ℕ) → option_map (λ a. valued (addressed a p.values) p) o ≡ Some next → Stays ps next
+      by None e = absurd cc
+      by (Some a) e = subst (λ (x : Planned). Stays ps x) (some_same _ next e) h
+  stays place.Level ps w p next h e = by (level_of w) e
+    where
+      by : (o : Option Level) → option_map (λ l. valued (levelled l p.values) p) o ≡ Some next → Stays ps next
+      by None e = absurd cc
+      by (Some l) e = subst (λ (x : Planned). Stays ps x) (some_same _ next e) h
+  stays place.Inputs ps w p next h e = absurd cc
+
+  stays_all : (ws : List (List ℕ)) (p : Planned) → Stays [] p → Stays [] (with_inputs ws p)
+  stays_all [] p h = h
+  stays_all (w ∷ ws) p h = stays_all ws (reading w demand.Input p) (begins_append d p.reads (wanted w demand.Input) h)
+
+  stays_last : (ps : List Place) (w : List ℕ) (ws : List (List ℕ)) (p : Planned) → Stays (place.Inputs ∷ ps) p → Stays [] (with_inputs (w ∷ ws) p)
+  stays_last ps w ws p h = stays_all (w ∷ ws) p h
+
+  begins_read : (ps : List Place) (w : List ℕ) (ws : List (List ℕ)) (p last : Planned) → p.reads ≡ [] → filled (place.Read d ∷ ps) (w ∷ ws) p ≡ Some last → BeginsAs d last.reads
+  begins_read ps w ws p last none e = by (is_name w) e
+    where
+      by : (b : Bool) → option_and_then (λ next. filled ps ws next) (if b then Some (reading w d p) else None) ≡ Some last → BeginsAs d last.reads
+      by true e = fill_rule Stays stays stays_last ps ws (reading w d p) last e (subst (λ (rs : List Wanted). BeginsAs d (rs ++ wanted w d ∷ [])) (sym none) refl)
+      by false e = absurd cc
+
+begins_as : (ps : List Place) (ws : List (List ℕ)) (p last : Planned) → p.reads ≡ [] → filled ps ws p ≡ Some last → Begins ps last.reads
+begins_as (place.Read d ∷ ps) [] p last none e = absurd cc
+begins_as (place.Read d ∷ ps) (w ∷ ws) p last none e = begins_read d ps w ws p last none e
+begins_as _ ws p last none e = tt
+
+-- it is fit for its place
+suited : (d : Demand) (ws : List Wanted) (r : Read) → BeginsAs d ws → IsReadBy ws r → IsSuited d (exe_of r)
+suited demand.Unmapped [] r begins h = absurd begins
+suited demand.Unmapped (w ∷ ws) r begins h =
+    let x = h.1.0 in
+    let taken = subst (λ (d : Demand). taken_as d w.name nothing x ≡ Ok h.0) begins h.1.2 in
+    let is = took demand.Unmapped w.name nothing x h.0 taken in
+    let first : BeginsWith (elf_of x) h.0.executables = ([], ap (λ (y : Read). y.executables) is.1) in
+    let exe = exe_is r (elf_of x) (first_stays (λ name y. Unit {0}) ws h.0 r (elf_of x) h.2 first) in
+    subst (λ (y : List ℕ). CanLabel (elf_of y)) (sym exe) is.0.1
+suited _ ws r begins h = tt
+
+first_suited : (ps : List Place) (ws : List Wanted) (r : Read) → Begins ps ws → IsReadBy ws r → IsFirstSuited ps (exe_of r)
+first_suited (place.Read d ∷ ps) ws r begins h = suited d ws r begins h
+first_suited _ ws r begins h = tt
 
 -- ---- each form
 
@@ -271,7 +345,9 @@ sound v ws p e =
     })
     in
     let many = end.writes_are in
-    let at : (length p.writes ≡ writes_in ps) × ((r : Read) → IsReadBy p.reads r → Serves v p.values r) = (
+    let begins : Begins ps p.reads = begins_as ps ws (begun v) p refl e in
+    let at : Begins ps p.reads × (length p.writes ≡ writes_in ps) × ((r : Read) → IsReadBy p.reads r → Serves v p.values r) = (
+      begins,
       omega (arith, many),
       λ r h.
           let read = all_counted p.reads nothing r h in
@@ -282,11 +358,12 @@ sound v ws p e =
           let most = end.most in
           record {
             executables = omega (arith, es, needs);
+            first = first_suited ps p.reads r begins h;
             inputs = omega (arith, is, wants);
             some = λ has. ⊎_elim (λ n. n) (λ none. absurd (omega (arith, has, none))) end.some;
             most = omega (arith, most);
           },
     )
     in
-    let both = subst (λ (u : Verb). (length p.writes ≡ writes_in (places_of u)) × ((r : Read) → IsReadBy p.reads r → Serves u p.values r)) (sym end.verb_is) at in
-    record { distinct = end.distinct; many = both.0; serves = both.1 }
+    let both = subst (λ (u : Verb). Begins (places_of u) p.reads × (length p.writes ≡ writes_in (places_of u)) × ((r : Read) → IsReadBy p.reads r → Serves u p.values r)) (sym end.verb_is) at in
+    record { begins = both.0; distinct = end.distinct; many = both.1; serves = both.2 }

@@ -18,4 +18,5 @@ pub mod ReplayLaws
 pub mod DemoLaws
 pub mod FormLaws
 pub mod HeadlineLaws
+pub mod LabellingLaws
 pub mod FormRows

@@ -10,6 +10,8 @@ use Rattle.rz_input.specs.Fault.{fault_of as input_fault_of, fault_of_line}
 use Rattle.rz_text.specs.Fault.{line_fault}
 use Rattle.rz_classes.specs.declared.error.ClassError.TheVariants as class_error
 use Rattle.rz_classes.specs.Fault.{fault_of as class_fault_of, fault_of_line as class_fault_of_line}
+use Rattle.rz_syms.specs.declared.function.Function.{Function as Named}
+use Rattle.rz_syms.specs.Resolved.{resolved, resolved_lines}
 use Rattle.rz_trace.specs.declared.error.TraceFault.TheVariants as trace_error
 use Rattle.rz_trace.specs.Fault.{fault_of as trace_fault_of, fault_of_lines}
 use Rattle.rz_text.specs.Lines.{lines_from}
@@ -54,6 +56,11 @@ long_input x long = ap (λ b. if b then Some (error.BadLine 0) else line_fault f
 -- a class file of too many bytes
 pub long_classes : (x : List ℕ) → 16777216 < length x → class_fault_of x ≡ Some (class_error.BadLine 0)
 long_classes x long = ap (λ b. if b then Some (class_error.BadLine 0) else line_fault class_fault_of_line x) (lt-ltb 16777216 (length x) long)
+
+-- so is its text by addresses
+pub long_class_text : (names : List Named) (x : List ℕ) → 16777216 < length x → class_fault_of (resolved names x) ≡ Some (class_error.BadLine 0)
+unfolding resolved
+long_class_text names x long = ap (λ b. class_fault_of (if b then x else resolved_lines names x)) (lt-ltb 16777216 (length x) long) ∙ long_classes x long
 
 -- a trace file of too many bytes
 pub long_trace : (x : List ℕ) → 16777216 < length x → trace_fault_of x ≡ Some (trace_error.BadLine 0)

@@ -7,3 +7,4 @@ pub mod Said
 pub mod Planned
 pub mod Carried
 pub mod Putting
+pub mod Labelled

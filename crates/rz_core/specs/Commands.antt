@@ -13,6 +13,8 @@ use Rattle.rz_core.specs.Recorded.{trace_work}
 use Rattle.rz_core.specs.Replayed.{replay_work}
 use Rattle.rz_core.specs.Paired.{report_work}
 use Rattle.rz_core.specs.Demonstrated.{demo_work}
+use Rattle.rz_core.specs.Named.{functions_work}
+use Rattle.rz_core.specs.Labelled.{label_work}
 
 abbrev pub work_of : Verb → Values → Work
 work_of verb.Debloat v = debloat_work v.level v.number
@@ -24,6 +26,8 @@ work_of verb.Trace v = trace_work v.number
 work_of verb.Replay v = replay_work v.number
 work_of verb.Report v = report_work
 work_of verb.Demo v = demo_work v.number
+work_of verb.Functions v = functions_work v.level v.number
+work_of verb.Label v = label_work
 
 abbrev pub command_of : Planned → Command
 command_of p = record { reads = p.reads; writes = p.writes; work = work_of p.verb p.values }

@@ -19,7 +19,8 @@ use Rattle.rz_core.specs.declared.plan.Wanted.{Wanted}
 use Rattle.rz_core.specs.declared.plan.Verb.{Verb}
 use Rattle.rz_core.specs.declared.plan.Verb.TheVariants as verb
 use Rattle.rz_core.specs.Words.{Planned, form_of}
-use Rattle.rz_core.specs.Classes.{HoldsClasses}
+use Rattle.rz_elf.specs.Loaded.{elf_of}
+use Rattle.rz_core.specs.Classes.{HoldsClasses, names_of}
 use Rattle.rz_core.specs.Inputs.{HoldInputs}
 use Rattle.rz_core.specs.Writing.{HoldEach}
 use Rattle.rz_core.specs.Exact.{holds}
@@ -29,6 +30,8 @@ use Rattle.rz_core.specs.Debloated.{sources, IsKept, traced}
 
 abbrev pub executable_added : Demand → List ℕ → List (List ℕ) → List (List ℕ)
 executable_added demand.Accepted name names = name ∷ names
+executable_added demand.Named name names = name ∷ names
+executable_added demand.Unmapped name names = name ∷ names
 executable_added _ name names = names
 
 -- of executables, in order
@@ -65,7 +68,7 @@ pub record HoldsHeadline (p : Planned) (old new : Files) : Type 0 where
   pub kept : Kept
   pub w : List ℕ
   pub exe : HoldEach old (executables p.reads) (x ∷ [])
-  pub functions_are : HoldsClasses (holds old) (last_classes None p.reads) functions
+  pub functions_are : HoldsClasses (holds old) (names_of (elf_of x)) (last_classes None p.reads) functions
   pub inputs_are : HoldInputs (holds old) (inputs_named p.reads) inputs
   pub is : IsKept p.values.level p.values.number (sources x functions inputs) kept
   pub out : HoldEach new p.writes (w ∷ [])

@@ -1,10 +1,15 @@
 -- The files that a command reads, in order: what each gives, in the light of those before it, and how it is refused.
-use Rattle.std.specs.Prelude.{◌≡◌, ◌⊎◌, ℕ, ◌+◌, List, [], ◌∷◌, ◌++◌, length, Option, Some, None, Result, Ok, Err}
+use Rattle.std.specs.Prelude.{◌≡◌, ◌⊎◌, ℕ, ◌+◌, if◌then◌else◌, List, [], ◌∷◌, ◌++◌, length, Option, Some, None, Result, Ok, Err}
 use Rattle.rz_outside.specs.Counts.{Rose}
 use Rattle.rz_outside.specs.StoreAnswers.{IsMissing}
 use Rattle.rz_outside.specs.StoreCalls.{StoreCalls, Held}
 use Rattle.rz_elf.specs.Elf.{fault_of}
 use Rattle.rz_elf.specs.Loaded.{ElfFile, elf_of}
+use Rattle.rz_elf.specs.Stamped.{stamp_of}
+use Rattle.rz_label.specs.Labelled.{maps_header}
+use Rattle.rz_syms.specs.declared.function.Function.{Function as Named}
+use Rattle.rz_syms.specs.Fault.{fault_of as symbol_fault_of}
+use Rattle.rz_syms.specs.Resolved.{resolved}
 use Rattle.rz_classes.specs.declared.listed.Function.{Function}
 use Rattle.rz_classes.specs.Fault.{fault_of as class_fault_of, functions_of}
 use Rattle.rz_sys.specs.declared.input.Input.{Input}
@@ -21,7 +26,7 @@ use Rattle.rz_core.specs.declared.plan.Demand.{Demand}
 use Rattle.rz_core.specs.declared.plan.Demand.TheVariants as demand
 use Rattle.rz_core.specs.declared.plan.Wanted.{Wanted}
 use Rattle.rz_core.specs.Inputs.{line_of}
-use Rattle.rz_core.specs.Classes.{line_of as class_line_of}
+use Rattle.rz_core.specs.Classes.{line_of as class_line_of, names_of_first}
 use Rattle.rz_core.specs.Traces.{line_of as trace_line_of}
 
 -- what was read so far, each kind in the order of the reads
@@ -54,6 +59,14 @@ second_bytes (elf ∷ elves) = first_bytes elves
 abbrev pub new_file_of : Read → List ℕ
 new_file_of r = second_bytes r.executables
 
+-- the functions that the first executable names
+abbrev pub named_in : Read → List Named
+named_in r = names_of_first r.executables
+
+-- a class text, with its functions by address
+abbrev pub class_text : Read → List ℕ → List ℕ
+class_text r x = resolved (named_in r) x
+
 -- the first input
 abbrev first_input : List Input → Input
 first_input [] = empty_input
@@ -79,11 +92,27 @@ abbrev pub judged : {E : Type 0} → Option E → (E → Status) → Result Read
 judged None refusal next = next
 judged (Some f) refusal next = Err (refusal f)
 
+-- the refusal where there is none, or else what follows
+abbrev pub asked : {A : Type 0} → Option A → Status → Result Read Status → Result Read Status
+asked None refusal next = Err refusal
+asked (Some a) refusal next = next
+
+-- the refusal of a file that can't be labelled, or else what follows
+abbrev pub unmapped : List ℕ → ElfFile → Result Read Status → Result Read Status
+unmapped name elf next =
+    asked (stamp_of elf) (status.NotStamped name) (if maps_header elf then Err (status.HeaderMapped name) else next)
+
 -- what has been read once the file of this name holds these bytes, or the status that refuses it
 abbrev pub taken_as : Demand → List ℕ → Read → List ℕ → Result Read Status
 taken_as demand.Accepted name r x = judged (fault_of x) (λ f. status.Refused name f) (Ok (with_executable r (elf_of x)))
+taken_as demand.Named name r x =
+    judged (fault_of x) (λ f. status.Refused name f)
+    (judged (symbol_fault_of x) (λ f. status.BadSymbols f) (Ok (with_executable r (elf_of x))))
+taken_as demand.Unmapped name r x =
+    judged (fault_of x) (λ f. status.Refused name f) (unmapped name (elf_of x) (Ok (with_executable r (elf_of x))))
 taken_as demand.ClassFile name r x =
-    judged (class_fault_of x) (λ f. status.BadClasses (class_line_of f)) (Ok (with_functions r (functions_of x)))
+    judged (class_fault_of (class_text r x)) (λ f. status.BadClasses (class_line_of f))
+    (Ok (with_functions r (functions_of (class_text r x))))
 taken_as demand.Input name r x =
     judged (input_fault_of x) (λ f. status.BadInput (length r.inputs + 1) (line_of f)) (Ok (with_input r (input_of x)))
 taken_as demand.Trace name r x =

@@ -5,6 +5,7 @@ use Rattle.rz_core.specs.declared.status.Status.{Status}
 use Rattle.rz_core.specs.declared.status.Status.TheVariants as status
 use Rattle.rz_core.specs.declared.status.Target.TheVariants as target
 use Rattle.rz_elf.specs.Texts.{fault_text, room_text}
+use Rattle.rz_syms.specs.Texts.{fault_text as symbol_fault_text}
 
 pub data Kind : Type 0 where
   -- the command is done, and put its own text
@@ -41,7 +42,10 @@ row_of (status.WriteFault target.Text) = row 9 TextLost []
 row_of (status.Differ event) = row 10 Done []
 row_of (status.StubStop source) = row 11 Done []
 row_of status.OutOfMemory = row 12 NoMemory []
+row_of (status.NotStamped file) = row 13 Refused (codes "not stamped " ++ (file ++ 10 ∷ []))
 row_of (status.BadTrace line) = row 16 Refused (codes "bad trace " ++ (decimal line ++ 10 ∷ []))
+row_of (status.BadSymbols why) = row 18 Refused (codes "bad symbols " ++ (symbol_fault_text why ++ 10 ∷ []))
+row_of (status.HeaderMapped file) = row 19 Refused (codes "header mapped " ++ (file ++ 10 ∷ []))
 
 abbrev pub number_of : Status → ℕ
 number_of st = (row_of st).number

@@ -13,6 +13,10 @@ check_text loads entry first_break =
 abbrev pub generated_text : ℕ → List ℕ
 generated_text len = codes "generated " ++ (decimal len ++ codes "\n")
 
+-- what is said of a labelled file: how many bytes it has
+abbrev pub labelled_text : ℕ → List ℕ
+labelled_text len = codes "labelled " ++ (decimal len ++ codes "\n")
+
 -- what is said of a trace: how many nodes and how many edges it has
 abbrev pub traced_text : ℕ → ℕ → List ℕ
 traced_text nodes edges = codes "traced " ++ (decimal nodes ++ (32 ∷ (decimal edges ++ 10 ∷ [])))

@@ -13,7 +13,7 @@ use Rattle.rz_core.specs.declared.plan.Verb.TheVariants as verb
 use Rattle.rz_core.specs.declared.plan.Values.{Values}
 use Rattle.rz_core.specs.declared.forms.Place.{Place}
 use Rattle.rz_core.specs.declared.forms.Place.TheVariants as place
-use Rattle.rz_core.specs.declared.forms.TheConstants.{DEBLOAT, CHECK, DISASM, GENERATE, RUN, TRACE, REPLAY, REPORT, DEMO}
+use Rattle.rz_core.specs.declared.forms.TheConstants.{DEBLOAT, CHECK, DISASM, GENERATE, RUN, TRACE, REPLAY, REPORT, DEMO, FUNCTIONS, LABEL}
 
 -- ---- what the words say
 
@@ -145,6 +145,8 @@ verb_of word =
     else if bytes_eq word (codes "replay") then Some verb.Replay
     else if bytes_eq word (codes "report") then Some verb.Report
     else if bytes_eq word (codes "demo") then Some verb.Demo
+    else if bytes_eq word (codes "functions") then Some verb.Functions
+    else if bytes_eq word (codes "label") then Some verb.Label
     else None
 
 abbrev pub places_of : Verb → List Place
@@ -157,6 +159,8 @@ places_of verb.Trace = TRACE
 places_of verb.Replay = REPLAY
 places_of verb.Report = REPORT
 places_of verb.Demo = DEMO
+places_of verb.Functions = FUNCTIONS
+places_of verb.Label = LABEL
 
 -- the form that the words have, if any
 abbrev pub form_of : List (List ℕ) → Option Planned

@@ -27,7 +27,7 @@ const STEPS: u64 = 1_000_000_000;
 const LINES: u64 = 100_000;
 
 /// How many functions a generated program may have.
-const FUNCTIONS: u64 = 4000;
+const MOST_FUNCTIONS: u64 = 4000;
 
 /// `debloat EXE CLASSES LEVEL LIMIT OUT INPUT..`, with a limit in steps.
 pub static DEBLOAT: [Place; 6] = [
@@ -50,7 +50,7 @@ pub static DISASM: [Place; 3] = [
 ];
 
 /// `gen N OUT`, with a number of functions.
-pub static GENERATE: [Place; 2] = [Place::Number(FUNCTIONS), Place::Write];
+pub static GENERATE: [Place; 2] = [Place::Number(MOST_FUNCTIONS), Place::Write];
 
 /// `run EXE LIMIT INPUT`, with a limit in steps.
 pub static RUN: [Place; 3] = [
@@ -79,4 +79,16 @@ pub static REPLAY: [Place; 4] = [
 pub static REPORT: [Place; 2] = [Place::Read(Demand::Accepted), Place::Read(Demand::Accepted)];
 
 /// `demo N OUT`, with a number of functions.
-pub static DEMO: [Place; 2] = [Place::Number(FUNCTIONS), Place::Write];
+pub static DEMO: [Place; 2] = [Place::Number(MOST_FUNCTIONS), Place::Write];
+
+/// `functions EXE CLASSES LEVEL LIMIT INPUT..`, with a limit in steps.
+pub static FUNCTIONS: [Place; 5] = [
+    Place::Read(Demand::Named),
+    Place::Classes,
+    Place::Level,
+    Place::Number(STEPS),
+    Place::Inputs,
+];
+
+/// `label NEW OUT`.
+pub static LABEL: [Place; 2] = [Place::Read(Demand::Unmapped), Place::Write];

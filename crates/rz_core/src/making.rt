@@ -17,7 +17,8 @@ ghost use Rattle.rz_report.specs.Report.{debloat_report_of};
 ghost use Rattle.rz_rewrite.specs.Refusals.{IsRefusal, no_room_for, rip_reach_of};
 ghost use Rattle.rz_trace.specs.Printed.{printed};
 ghost use Rattle.rz_core.specs.Recorded.{trace_report};
-ghost use Rattle.rz_core.specs.Calls.Making.{status_of, MakeRefusal, RunRefusal, RunsRefusal, TraceRefusal as TraceRefusalOf};
+ghost use Rattle.rz_core.specs.Named.{IsListing};
+ghost use Rattle.rz_core.specs.Calls.Making.{status_of, IsListed, MakeRefusal, RunRefusal, RunsRefusal, TraceRefusal as TraceRefusalOf};
 
 use crate::decoding::Decoding;
 use crate::status::Status;
@@ -30,6 +31,7 @@ use rz_paths::{Level, expand};
 use rz_report::debloat::debloat_report;
 use rz_rewrite::refusal::Refusal;
 use rz_rewrite::rewrite::{New, rewrite};
+use rz_syms::{Symbols, listing};
 use rz_sys::input::Input;
 use rz_trace::{TraceRefusal, print_trace, trace};
 use std::alloc::Global;
@@ -87,6 +89,48 @@ fn keep(
         CanRewrite decode_profile (image_of elf.now.bytes) (kept_in kept)) }
 {
     expand::<Decoding>(alloc, elf, recorded, classes, level)
+}
+
+/// What a level keeps of each of these functions of a file, with these listed ones, after its runs of `limit` steps on
+/// these inputs, or that a run left the code, or there was no memory.
+pub fn list_kept(
+    alloc: Global,
+    elf: &Elf,
+    classes: &Classes,
+    inputs: &[Input],
+    level: Level,
+    limit: u64,
+    symbols: &Symbols,
+) -> Result<Bytes, Status>
+    requires valid { All IsValid inputs.now }
+    requires runs { 1 ≤ length inputs.now }
+    requires some { 1 ≤ limit }
+    ensures listing { IfOk result
+        (IsListing level limit (sources elf.now.bytes classes.now inputs.now) symbols.now) }
+    ensures stay { OnOk result (AllStay limit elf.now.bytes inputs.now) }
+    ensures err { IfErr result (TraceRefusalOf limit elf.now.bytes inputs.now) }
+{
+    let recorded = record_runs(alloc, elf, inputs, limit)?;
+    match list_recorded(alloc, elf, classes, &recorded, level, symbols) {
+        Ok(text) => Ok(text),
+        Err(OutOfMemory) => Err(Status::OutOfMemory),
+    }
+}
+
+// What a level keeps of each of these functions, of what runs of a file recorded.
+fn list_recorded(
+    alloc: Global,
+    elf: &Elf,
+    classes: &Classes,
+    recorded: &Record,
+    level: Level,
+    symbols: &Symbols,
+) -> Result<Bytes, OutOfMemory>
+    requires recorded { CanRewrite decode_profile (image_of elf.now.bytes) (kept_in recorded.now) }
+    ensures { IfOk result (IsListed level elf.now.bytes classes.now recorded.now symbols.now) }
+{
+    let kept = keep(alloc, elf, classes, recorded, level)?;
+    listing(alloc, symbols, &kept)
 }
 
 // The answer to a file that can't be rewritten.

@@ -16,7 +16,9 @@ use crate::debloat::debloat;
 use crate::demo::demo;
 use crate::disasm::disasm;
 use crate::files::Files;
+use crate::functions::functions;
 use crate::generate::generate;
+use crate::label::label;
 use crate::outcome::Outcome;
 use crate::plan::{Values, Verb};
 use crate::replay::replay;
@@ -57,5 +59,7 @@ pub fn perform(alloc: Global, verb: Verb, values: Values, files: &Files) -> Resu
         Verb::Replay => or_memory(replay(alloc, files, number)),
         Verb::Report => or_memory(report(alloc, files)),
         Verb::Demo => demo(alloc, number as u32),
+        Verb::Functions => functions(alloc, files, values.level, number),
+        Verb::Label => label(alloc, files),
     }
 }

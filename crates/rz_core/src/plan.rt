@@ -15,6 +15,8 @@ pub enum Verb {
     Replay,
     Report,
     Demo,
+    Functions,
+    Label,
 }
 
 /// What the words say beside names: 0 and exact where they say no such thing.
@@ -31,6 +33,10 @@ pub struct Values {
 pub enum Demand {
     /// An accepted file.
     Accepted,
+    /// An accepted file whose symbol table has no fault.
+    Named,
+    /// A written file whose header isn't mapped.
+    Unmapped,
     ClassFile,
     /// The next input.
     Input,

@@ -7,20 +7,28 @@ ghost use Rattle.rz_outside.specs.StoreCalls.{store_calls, Held};
 ghost use Rattle.rz_elf.specs.Elf.{fault_of};
 ghost use Rattle.rz_elf.specs.Loaded.{elf_of};
 ghost use Rattle.rz_sys.specs.Input.{IsValid};
-ghost use Rattle.rz_core.specs.Reading.{read_in, nothing, taken, taken_as, IsTaken, AreTaken, ReadRefusal, FileRefusal, IsUnread};
-ghost use Rattle.rz_core.specs.Calls.Taking.{IsRefusedFor, Untaken, most_of, class_refusal as class_refusal_of, input_refusal as input_refusal_of, trace_refusal as trace_refusal_of};
-ghost use Rattle.rz_core.specs.declared.plan.Demand.TheVariants.{Accepted, ClassFile, Input, Trace};
+ghost use Rattle.rz_core.specs.Reading.{read_in, nothing, with_executable, taken, taken_as, IsTaken, AreTaken, ReadRefusal, FileRefusal, IsUnread};
+ghost use Rattle.rz_core.specs.Calls.Taking.{IsRefusedFor, IsMisnamed, IsUnmapped, IsMapped, IsClassFile, Untaken, most_of, symbol_refusal as symbol_refusal_of, class_refusal as class_refusal_of, input_refusal as input_refusal_of, trace_refusal as trace_refusal_of};
+ghost use Rattle.rz_core.specs.declared.plan.Demand.TheVariants.{Accepted, Named, Unmapped, ClassFile, Input, Trace};
+ghost use Rattle.rz_core.specs.declared.status.Status.TheVariants.{OutOfMemory};
+ghost use Rattle.rz_core.specs.Classes.{names_of_first};
+ghost use Rattle.rz_syms.specs.Fault.{fault_of as symbol_fault_of};
+ghost use Rattle.rz_syms.specs.Resolved.{resolved};
 
 use crate::files::Files;
+use crate::names::first_names;
 use crate::plan::{Demand, Wanted};
 use crate::status::Status;
-use rz_classes::ClassError;
+use rz_classes::{ClassError, Classes};
 use rz_elf::elf::Elf;
 use rz_elf::fault::ElfError;
 use rz_elf::read::read_elf;
+use rz_elf::stamp::stamped;
 use rz_input::InputError;
+use rz_label::label::maps_header;
 use rz_num::{Bytes, Text};
 use rz_outside::{ReadErr, Store};
+use rz_syms::{SymError, read_symbols, resolve};
 use rz_trace::{TraceFault, read_trace};
 use std::alloc::Global;
 
@@ -53,7 +61,7 @@ fn most(demand: Demand) -> u64
     ensures { result ≡ most_of demand }
 {
     match demand {
-        Demand::Accepted => EXECUTABLE_MAX,
+        Demand::Accepted | Demand::Named | Demand::Unmapped => EXECUTABLE_MAX,
         Demand::ClassFile | Demand::Input | Demand::Trace => TEXT_MAX,
     }
 }
@@ -79,10 +87,86 @@ fn take_accepted(alloc: Global, name: &Text, bytes: Bytes, files: &mut Files) ->
     ensures err { IfErr result (Untaken (taken_as Accepted name.now (read_in files.old) bytes)) }
 {
     let elf = accept(alloc, name, bytes)?;
+    add_executable(elf, files)
+}
+
+// Adds what was read of an executable.
+fn add_executable(elf: Elf, files: &mut Files) -> Result<(), Status>
+    ensures ok { OnOk result (read_in files.new ≡ with_executable (read_in files.old) elf) }
+    ensures inputs { files.new.inputs ≡ files.old.inputs }
+    ensures err { IfErr result (λ st. st ≡ OutOfMemory) }
+{
     match files.executables.push(elf) {
         Ok(()) => Ok(()),
         Err(_) => Err(Status::OutOfMemory),
     }
+}
+
+// How the symbols of an executable are refused.
+fn symbol_refusal(error: SymError) -> Status
+    ensures { result ≡ symbol_refusal_of error }
+{
+    match error {
+        SymError::OutOfMemory => Status::OutOfMemory,
+        SymError::Fault(fault) => Status::BadSymbols(fault),
+    }
+}
+
+// Whether the symbol table of a file has no fault, or the refusal.
+fn check_symbols(alloc: Global, elf: &Elf) -> Result<(), Status>
+    ensures sound { OnOk result (symbol_fault_of elf.now.bytes ≡ None) }
+    ensures refused { IfErr result (IsMisnamed elf.now.bytes) }
+{
+    match read_symbols(alloc, elf) {
+        Ok(_) => Ok(()),
+        Err(error) => Err(symbol_refusal(error)),
+    }
+}
+
+fn take_named(alloc: Global, name: &Text, bytes: Bytes, files: &mut Files) -> Result<(), Status>
+    ensures ok { OnOk result (taken_as Named name.now (read_in files.old) bytes ≡ Ok (read_in files.new)) }
+    ensures valid { All IsValid files.old.inputs.items → All IsValid files.new.inputs.items }
+    ensures err { IfErr result (Untaken (taken_as Named name.now (read_in files.old) bytes)) }
+{
+    let elf = accept(alloc, name, bytes)?;
+    check_symbols(alloc, &elf)?;
+    add_executable(elf, files)
+}
+
+// Whether a file is stamped and its header isn't mapped, or the refusal.
+fn check_unmapped(alloc: Global, name: &Text, elf: &Elf) -> Result<(), Status>
+    ensures unmapped { OnOk result (IsUnmapped name.now elf.now) }
+    ensures refused { IfErr result (IsMapped name.now elf.now) }
+{
+    let Ok(file) = Text::from_slice(alloc, name.as_slice()) else {
+        return Err(Status::OutOfMemory);
+    };
+    if stamped(elf).is_none() {
+        return Err(Status::NotStamped { file });
+    }
+    if maps_header(elf) {
+        return Err(Status::HeaderMapped { file });
+    }
+    Ok(())
+}
+
+fn take_unmapped(alloc: Global, name: &Text, bytes: Bytes, files: &mut Files) -> Result<(), Status>
+    ensures ok { OnOk result (taken_as Unmapped name.now (read_in files.old) bytes ≡ Ok (read_in files.new)) }
+    ensures valid { All IsValid files.old.inputs.items → All IsValid files.new.inputs.items }
+    ensures err { IfErr result (Untaken (taken_as Unmapped name.now (read_in files.old) bytes)) }
+{
+    let elf = accept(alloc, name, bytes)?;
+    check_unmapped(alloc, name, &elf)?;
+    add_executable(elf, files)
+}
+
+// The functions that a class file lists, some of them by the names that the first of these files has for them.
+fn read_classes(alloc: Global, executables: &[Elf], bytes: &Bytes) -> Result<Classes, ClassError>
+    ensures { IsClassFile (resolved (names_of_first executables.now) bytes.now) result }
+{
+    let symbols = first_names(alloc, executables)?;
+    let text = resolve(alloc, bytes, &symbols)?;
+    rz_classes::read_classes(alloc, &text)
 }
 
 // How a class file is refused.
@@ -101,7 +185,7 @@ fn take_classes(alloc: Global, name: &Text, bytes: Bytes, files: &mut Files) -> 
     ensures valid { All IsValid files.old.inputs.items → All IsValid files.new.inputs.items }
     ensures err { IfErr result (Untaken (taken_as ClassFile name.now (read_in files.old) bytes)) }
 {
-    match rz_classes::read_classes(alloc, &bytes) {
+    match read_classes(alloc, files.executables.as_slice(), &bytes) {
         Ok(classes) => {
             files.functions = classes;
             Ok(())
@@ -169,6 +253,8 @@ fn take(alloc: Global, wanted: &Wanted, bytes: Bytes, files: &mut Files) -> Resu
 {
     match wanted.demand {
         Demand::Accepted => take_accepted(alloc, &wanted.name, bytes, files),
+        Demand::Named => take_named(alloc, &wanted.name, bytes, files),
+        Demand::Unmapped => take_unmapped(alloc, &wanted.name, bytes, files),
         Demand::ClassFile => take_classes(alloc, &wanted.name, bytes, files),
         Demand::Input => take_input(alloc, &wanted.name, bytes, files),
         Demand::Trace => take_trace(alloc, &wanted.name, bytes, files),

@@ -7,6 +7,7 @@ ghost use Rattle.rz_core.specs.Calls.Said.{text_said};
 use rz_elf::fault::ElfFault;
 use rz_elf::room::Room;
 use rz_num::Text;
+use rz_syms::SymFault;
 
 /// What could not be written.
 #[derive(Clone, Copy, PartialEq, Eq, Debug)]
@@ -41,8 +42,14 @@ pub enum Status {
     /// The run of a file ended at the stub that names this address.
     StubStop { source: u64 },
     OutOfMemory,
+    /// A file isn't stamped as a written file is.
+    NotStamped { file: Text },
     /// The trace file breaks its grammar at this line.
     BadTrace { line: u64 },
+    /// The symbol table of a file has this fault.
+    BadSymbols(SymFault),
+    /// The program headers or a load of a file have bytes of its header.
+    HeaderMapped { file: Text },
 }
 
 /// What the text of an answer says: its words, and the values behind them.
@@ -60,6 +67,7 @@ pub enum Said<'a> {
     Place(&'static str, u64, u64),
     Fault(&'static str, &'a Text, ElfFault),
     Room(&'static str, Room),
+    Symbols(&'static str, SymFault),
 }
 
 /// The row of a status.
@@ -106,7 +114,10 @@ pub fn row_of<'a>(status: &'a Status) -> Row<'a>
         Status::Differ { .. } => Row::new(10, Said::Nothing),
         Status::StubStop { .. } => Row::new(11, Said::Nothing),
         Status::OutOfMemory => Row::new(12, Said::Nothing),
+        Status::NotStamped { file } => Row::new(13, Said::Name("not stamped", file)),
         Status::BadTrace { line } => Row::new(16, Said::Number("bad trace", *line)),
+        Status::BadSymbols(fault) => Row::new(18, Said::Symbols("bad symbols", *fault)),
+        Status::HeaderMapped { file } => Row::new(19, Said::Name("header mapped", file)),
     }
 }
 

@@ -1,7 +1,7 @@
 //! The texts that the tool puts.
 
 ghost use Rattle.std.specs.Prelude.{◌≡◌, string_bytes, IfOk};
-ghost use Rattle.rz_core.specs.Texts.{check_text, generated_text, traced_text, verdict_text, counted_text, compared_text};
+ghost use Rattle.rz_core.specs.Texts.{check_text, generated_text, labelled_text, traced_text, verdict_text, counted_text, compared_text};
 ghost use Rattle.rz_core.specs.Statuses.{refusal_text as text_of_refusal};
 ghost use Rattle.rz_core.specs.Calls.Said.{text_said};
 
@@ -21,6 +21,13 @@ pub fn generated(alloc: Global, len: u64) -> Result<String, AllocError>
     ensures { IfOk result (λ s. string_bytes s ≡ generated_text len) }
 {
     format!(in alloc; "generated {len}\n")
+}
+
+/// What is said of a labelled file of so many bytes.
+pub fn labelled(alloc: Global, len: u64) -> Result<String, AllocError>
+    ensures { IfOk result (λ s. string_bytes s ≡ labelled_text len) }
+{
+    format!(in alloc; "labelled {len}\n")
 }
 
 /// What is said of a trace of so many nodes and edges.
@@ -79,6 +86,7 @@ fn say(alloc: Global, said: Said) -> Result<String, AllocError>
             format!(in alloc; "{words} {name} {fault}\n")
         }
         Said::Room(words, room) => format!(in alloc; "{words} {room}\n"),
+        Said::Symbols(words, fault) => format!(in alloc; "{words} {fault}\n"),
     }
 }
 

@@ -6,6 +6,7 @@ ghost use Rattle.rz_outside.specs.SinkCalls.{sink_calls};
 ghost use Rattle.rz_core.specs.Causes.{HasCause, FilesAfter, SinkAfter};
 ghost use Rattle.rz_core.specs.Exact.{IsExact};
 ghost use Rattle.rz_core.specs.Headline.{Headline};
+ghost use Rattle.rz_core.specs.Labelling.{Labelling};
 
 use crate::driver::{refuse, run_plan};
 use crate::status::Status;
@@ -26,6 +27,7 @@ pub fn run_tool<S: Store, K: Sink>(
     ensures sink_telling { IsSome (K.written out.new) ↔ IsSome (K.written out.old) }
     ensures sink_count { K.faults out.old ≤ K.faults out.new }
     ensures headline { Headline words.now.items (store_calls S.Store store.old store.new) result }
+    ensures labelled { Labelling words.now.items (store_calls S.Store store.old store.new) result }
     ensures cause { HasCause words.now.items
         (store_calls S.Store store.old store.new) (sink_calls K.Sink out.old out.new) result }
     ensures exact { IsExact words.now.items

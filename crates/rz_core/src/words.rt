@@ -5,7 +5,9 @@ ghost use Rattle.std.specs.List.{list_all};
 ghost use Rattle.rz_core.specs.Words.{verb_of, places_of, begun, level_of, number_of, address_of, is_name as is_name_of, are_inputs as are_inputs_of, is_among as is_among_of, with_read, with_classes, with_write, with_number, with_address, with_level, with_inputs, inputs_filled, said, filled, form_of};
 ghost use Rattle.rz_core.specs.Calls.Planned.{planned, IsFilled, IsPlanOf, IsPlan};
 
-use crate::forms::{CHECK, DEBLOAT, DEMO, DISASM, GENERATE, Place, REPLAY, REPORT, RUN, TRACE};
+use crate::forms::{
+    CHECK, DEBLOAT, DEMO, DISASM, FUNCTIONS, GENERATE, LABEL, Place, REPLAY, REPORT, RUN, TRACE,
+};
 use crate::plan::{Demand, Plan, Values, Verb, Wanted};
 use rz_num::{OutOfMemory, Text};
 use rz_paths::Level;
@@ -26,6 +28,8 @@ fn read_verb(word: &Text) -> Option<Verb>
         "replay" => Some(Verb::Replay),
         "report" => Some(Verb::Report),
         "demo" => Some(Verb::Demo),
+        "functions" => Some(Verb::Functions),
+        "label" => Some(Verb::Label),
         _ => None,
     }
 }
@@ -44,6 +48,8 @@ fn places(verb: Verb) -> &'static [Place]
         Verb::Replay => &REPLAY,
         Verb::Report => &REPORT,
         Verb::Demo => &DEMO,
+        Verb::Functions => &FUNCTIONS,
+        Verb::Label => &LABEL,
     }
 }
 

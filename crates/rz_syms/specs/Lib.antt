@@ -4,3 +4,4 @@ pub mod Listing
 pub mod Resolved
 pub mod Sections
 pub mod Symbols
+pub mod Texts

@@ -6,7 +6,12 @@ use Rattle.rz_rewrite.specs.declared.refusal.Refusal.TheVariants as refusal
 use Rattle.rz_core.specs.declared.status.Status.{Status}
 use Rattle.rz_core.specs.declared.status.Status.TheVariants as status
 use Rattle.rz_core.specs.Statuses.{Kind, Done, TextLost, FileLost, NoMemory, Refused, kind_of}
-use Rattle.rz_core.specs.Decoding.{decode_profile}
+use Rattle.rz_aset.specs.declared.kept.Record.{Record}
+use Rattle.rz_classes.specs.declared.listed.Function.{Function}
+use Rattle.rz_syms.specs.declared.function.Function.{Function as Named}
+use Rattle.rz_syms.specs.Listing.{listing}
+use Rattle.rz_paths.specs.Levels.{Keeps as KeepsAt}
+use Rattle.rz_core.specs.Decoding.{decode_profile, profile_program}
 use Rattle.rz_machine.specs.LeftCode.{LeavesCode}
 use Rattle.rz_paths.specs.declared.level.Level.{Level}
 use Rattle.rz_core.specs.Debloated.{Sources, DebloatEnds, LeavesFirst, traced}
@@ -44,6 +49,11 @@ abbrev pub RunsRefusal : ℕ → List ℕ → List Input → Status → Type 0
 RunsRefusal limit x inputs (status.LeftCode n address) = LeavesFirst limit x 1 inputs n address
 RunsRefusal limit x inputs status.OutOfMemory = Unit {0}
 RunsRefusal limit x inputs _ = ⊥
+
+-- a text is the listing of functions by what a level keeps of what runs of x recorded
+abbrev pub IsListed : Level → List ℕ → List Function → Record → List Named → List ℕ → Type 0
+IsListed level x functions recorded names text =
+    (kept : Record) × KeepsAt level (profile_program x) functions recorded kept × (text ≡ listing names kept.nodes)
 
 -- why no trace was made
 abbrev pub TraceRefusal : ℕ → List ℕ → List Input → Status → Type 0

@@ -8,9 +8,11 @@ use Rattle.rz_core.specs.declared.plan.Values.{Values}
 use Rattle.rz_core.specs.declared.plan.Plan.{Plan}
 use Rattle.rz_core.specs.declared.forms.Place.{Place}
 use Rattle.rz_core.specs.declared.forms.Place.TheVariants as place
-use Rattle.rz_core.specs.Reading.{Read, nothing, AreTaken}
+use Rattle.rz_elf.specs.Loaded.{elf_of}
+use Rattle.rz_core.specs.Reading.{Read, nothing, exe_of, AreTaken}
 use Rattle.rz_core.specs.Writing.{AreDistinct}
 use Rattle.rz_core.specs.Words.{Planned, places_of}
+use Rattle.rz_core.specs.Calls.Taking.{CanLabel}
 
 abbrev pub planned : Plan → Planned
 planned p = record { verb = p.verb; values = p.values; reads = p.reads.items; writes = p.writes.items }
@@ -28,6 +30,8 @@ IsPlanOf form (Some p) = form ≡ Some (planned p)
 
 abbrev pub executables_for : Demand → ℕ
 executables_for demand.Accepted = 1
+executables_for demand.Named = 1
+executables_for demand.Unmapped = 1
 executables_for _ = 0
 
 -- how many executables are read
@@ -62,9 +66,28 @@ greatest_in (place.Number greatest ∷ places) = greatest + greatest_in places
 greatest_in (place.Inputs ∷ places) = 0
 greatest_in (_ ∷ places) = greatest_in places
 
+-- the first file is read for what the first place says
+abbrev pub BeginsAs : Demand → List Wanted → Type 0
+BeginsAs d [] = ⊥
+BeginsAs d (w ∷ ws) = w.demand ≡ d
+
+abbrev pub Begins : List Place → List Wanted → Type 0
+Begins (place.Read d ∷ places) ws = BeginsAs d ws
+Begins _ ws = Unit {0}
+
+-- and is fit for it
+abbrev pub IsSuited : Demand → List ℕ → Type 0
+IsSuited demand.Unmapped x = CanLabel (elf_of x)
+IsSuited _ x = Unit {0}
+
+abbrev pub IsFirstSuited : List Place → List ℕ → Type 0
+IsFirstSuited (place.Read d ∷ places) x = IsSuited d x
+IsFirstSuited _ x = Unit {0}
+
 -- what was read serves the work of a verb, and so does the number
 pub record Serves (v : Verb) (values : Values) (r : Read) : Type 0 where
   pub executables : length r.executables ≡ executables_in (places_of v)
+  pub first : IsFirstSuited (places_of v) (exe_of r)
   pub inputs : inputs_in (places_of v) ≤ length r.inputs
   pub some : 1 ≤ greatest_in (places_of v) → 1 ≤ values.number
   pub most : values.number ≤ greatest_in (places_of v)
@@ -75,6 +98,7 @@ IsReadBy ws r = AreTaken (λ name x. Unit {0}) ws nothing r
 
 -- the files that are written are different, and as many as the form says; what is read serves the work
 pub record IsSound (p : Planned) : Type 0 where
+  pub begins : Begins (places_of p.verb) p.reads
   pub distinct : AreDistinct p.writes
   pub many : length p.writes ≡ writes_in (places_of p.verb)
   pub serves : (r : Read) → IsReadBy p.reads r → Serves p.verb p.values r

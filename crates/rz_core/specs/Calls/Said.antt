@@ -4,6 +4,7 @@ use Rattle.rz_num.specs.Texts.{hex_text}
 use Rattle.rz_core.specs.declared.status.Said.{Said}
 use Rattle.rz_core.specs.declared.status.Said.TheVariants as said
 use Rattle.rz_elf.specs.Texts.{fault_text, room_text}
+use Rattle.rz_syms.specs.Texts.{fault_text as symbol_fault_text}
 
 -- a line of words, and of what stands behind them
 abbrev line_of : List ℕ → List ℕ → List ℕ
@@ -23,3 +24,4 @@ text_said (said.Numbers words n m) = pair_of words.now (decimal n) (decimal m)
 text_said (said.Place words n a) = pair_of words.now (decimal n) (hex_text a)
 text_said (said.Fault words name fault) = pair_of words.now name.now (fault_text fault)
 text_said (said.Room words room) = line_of words.now (room_text room)
+text_said (said.Symbols words fault) = line_of words.now (symbol_fault_text fault)
